@@ -1,0 +1,91 @@
+-- Laws of 000's gen: what a derivation can have come from, and that a satisfied formula satisfies one of its generators (000: gen_sat).
+use Prim.Native.Nat.{ℕ}
+use mathlib.Core.Path.{_≡_, refl, sym, ap, subst, _∙_}
+use mathlib.Core.Logic.{_↔_, _⊎_, inl, inr, ⊎-elim, _≢_}
+use mathlib.Core.Bool.{Bool, true, false}
+use mathlib.Core.List.{List, [], _∷_, _++_, map}
+use Rattle.calculus.specs.Sets.{In, here, there}
+use Rattle.calculus.specs.Sets.Laws.{in-nil, in-one, in-left, in-right, in-map}
+use Rattle.calculus.specs.Reflects.{Any}
+use Rattle.calculus.specs.Formula.{Term, var, con, Fmla, truth, rel, eq, neg, conj, disj, exists, fv, fv-terms}
+use Rattle.calculus.specs.Satisfaction.{Pool, Database, Env, bind, Sat}
+use Rattle.calculus.specs.Satisfaction.Laws.{bind-cases, sat-cong}
+use Rattle.calculus.specs.Propagation.{exists-free, cp}
+use Rattle.calculus.specs.Propagation.Laws.{cp-sat, exists-sat}
+use Rattle.calculus.specs.Substitution.{subst-for}
+use Rattle.calculus.specs.Substitution.Laws.{subst-sat}
+use Rattle.calculus.specs.Generation.{Ap, ap-rel, ap-eq, Gen, gen-false, gen-atom, gen-neg-neg, gen-neg-disj, gen-neg-conj, gen-disj, gen-conj-left, gen-conj-right, gen-conj-eq, gen-conj-eq′, gen-exists, Generated}
+use Rattle.calculus.specs.Evaluation.Laws.{sat-decided}
+
+-- ---- inversion
+
+-- ψ equates x with y.
+abbrev pub Equates : Fmla → ℕ → ℕ → Type 0
+Equates ψ x y = (ψ ≡ eq x (var y)) ⊎ (ψ ≡ eq y (var x))
+
+-- What a derivation of gen x φ G can have come from, by the shape of φ.
+abbrev pub Origin : ℕ → Fmla → List Fmla → Type 0
+Origin x (truth true) G = ⊥
+Origin x (truth false) G = Unit {0}
+Origin x (rel r ts) G = In x (fv-terms ts)
+Origin x (eq y (var z)) G = ⊥
+Origin x (eq y (con p)) G = x ≡ y
+Origin x (neg (truth b)) G = ⊥
+Origin x (neg (rel r ts)) G = ⊥
+Origin x (neg (eq y t)) G = ⊥
+Origin x (neg (neg φ)) G = Gen x φ G
+Origin x (neg (conj φ ψ)) G = Gen x (disj (neg φ) (neg ψ)) G
+Origin x (neg (disj φ ψ)) G = Gen x (conj (neg φ) (neg ψ)) G
+Origin x (neg (exists z φ)) G = ⊥
+Origin x (conj φ ψ) G = Gen x φ G ⊎ (Gen x ψ G ⊎ ((y : ℕ) × Equates ψ x y × Generated y φ))
+Origin x (disj φ ψ) G = Generated x φ × Generated x ψ
+Origin x (exists y φ) G = (x ≢ y) × Generated x φ
+
+pub origin : {x : ℕ} {φ : Fmla} {G : List Fmla} → Gen x φ G → Origin x φ G
+origin gen-false = tt
+origin (gen-atom ap-rel i) = i
+origin (gen-atom ap-eq i) = in-one i
+origin (gen-neg-neg d) = d
+origin (gen-neg-disj d) = d
+origin (gen-neg-conj d) = d
+origin (gen-disj {G = G} {H = H} d e) = ((G, d), (H, e))
+origin (gen-conj-left d) = inl d
+origin (gen-conj-right d) = inr (inl d)
+origin (gen-conj-eq {y = y} {G = G} d) = inr (inr (y, inl refl, (G, d)))
+origin (gen-conj-eq′ {y = y} {G = G} d) = inr (inr (y, inr refl, (G, d)))
+origin (gen-exists {G = G} n d) = (n, (G, d))
+
+-- ---- a satisfied formula satisfies a generator
+
+module _ (pool : Pool) (D : Database) where
+  -- A denied conjunction has a denied side.
+  pub sat-neg-conj : (φ ψ : Fmla) (σ : Env) → Sat pool D (neg (conj φ ψ)) σ → Sat pool D (disj (neg φ) (neg ψ)) σ
+  sat-neg-conj φ ψ σ n = ⊎-elim (λ s. inr (λ t. n (s, t))) (λ m. inl m) (sat-decided pool D φ σ)
+
+  pub sat-neg-neg : (φ : Fmla) (σ : Env) → Sat pool D (neg (neg φ)) σ → Sat pool D φ σ
+  sat-neg-neg φ σ n = ⊎-elim (λ s. s) (λ m. absurd (n m)) (sat-decided pool D φ σ)
+
+  -- Of a satisfied formula, with σ x ≡ σ y, the same with x for y is satisfied.
+  moved-sat : (χ : Fmla) (x y : ℕ) (σ : Env) → σ x ≡ σ y → Sat pool D χ σ → Sat pool D (cp (subst-for χ y x)) σ
+  moved-sat χ x y σ e s = cp-sat pool D (subst-for χ y x) σ .1 (subst-sat pool D χ y x σ .1 (sat-cong pool D χ σ (bind y (σ x) σ) same s))
+    where
+      same : (u : ℕ) → In u (fv χ) → σ u ≡ bind y (σ x) σ u
+      same u i = bind-cases (λ v. σ u ≡ v) y (σ x) σ u (λ f. ap σ f ∙ sym e) (λ n. refl)
+
+  image-sat : (f : Fmla → Fmla) (G : List Fmla) (σ τ : Env) → ((χ : Fmla) → Sat pool D χ σ → Sat pool D (f χ) τ) → Any (λ χ. Sat pool D χ σ) G → Any (λ χ. Sat pool D χ τ) (map f G)
+  image-sat f G σ τ h s = (f (s .0), in-map f (s .1), h (s .0) (s .2))
+
+  -- 000: gen_sat.
+  pub gen-sat : {x : ℕ} {φ : Fmla} {G : List Fmla} → Gen x φ G → (σ : Env) → Sat pool D φ σ → Any (λ χ. Sat pool D χ σ) G
+  gen-sat gen-false σ s = absurd s
+  gen-sat (gen-atom {φ = φ} a i) σ s = (φ, here refl, s)
+  gen-sat (gen-neg-neg {φ = φ} d) σ s = gen-sat d σ (sat-neg-neg φ σ s)
+  gen-sat (gen-neg-disj d) σ s = gen-sat d σ (λ t. s (inl t), λ t. s (inr t))
+  gen-sat (gen-neg-conj {φ = φ} {ψ = ψ} d) σ s = gen-sat d σ (sat-neg-conj φ ψ σ s)
+  gen-sat (gen-disj {G = G} {H = H} d e) σ (inl s) = let r = gen-sat d σ s in (r .0, in-left H (r .1), r .2)
+  gen-sat (gen-disj {G = G} {H = H} d e) σ (inr s) = let r = gen-sat e σ s in (r .0, in-right G (r .1), r .2)
+  gen-sat (gen-conj-left d) σ s = gen-sat d σ (s .0)
+  gen-sat (gen-conj-right d) σ s = gen-sat d σ (s .1)
+  gen-sat (gen-conj-eq {x} {y} {G = G} d) σ s = image-sat (λ χ. cp (subst-for χ y x)) G σ σ (λ χ. moved-sat χ x y σ (s .1)) (gen-sat d σ (s .0))
+  gen-sat (gen-conj-eq′ {x} {y} {G = G} d) σ s = image-sat (λ χ. cp (subst-for χ y x)) G σ σ (λ χ. moved-sat χ x y σ (sym (s .1))) (gen-sat d σ (s .0))
+  gen-sat (gen-exists {y = y} {G = G} n d) σ s = image-sat (exists-free y) G (bind y (s .0) σ) σ (λ χ t. exists-sat pool D y χ σ .1 (s .0, t)) (gen-sat d (bind y (s .0) σ) (s .1))

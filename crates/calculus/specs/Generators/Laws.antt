@@ -1,0 +1,322 @@
+-- Document 01's generation order answers as 000 does: it finds leaves exactly where 000 allows some set of generators, and they are the
+-- leaves of such a set. And a generated variable of a satisfied formula has its value from one of the leaves.
+use Prim.Native.Nat.{ℕ, _+_}
+use mathlib.Core.Path.{_≡_, refl, sym, ap, subst, subst⁻¹, _∙_}
+use mathlib.Core.Logic.{_↔_, _⊎_, inl, inr, ⊎-elim, _≢_}
+use mathlib.Core.Bool.{Bool, true, false, not, cond}
+use mathlib.Core.List.{List, [], _∷_, _++_, map}
+use mathlib.Core.Option.{Option, none, some}
+use lib.Dec.{T, eqb}
+use Rattle.calculus.specs.Sets.{In, here, there, _⊆_}
+use Rattle.calculus.specs.Sets.Laws.{in-nil, in-one, in-left, in-right, in-append, in-map, from-union, reflects-member}
+use Rattle.calculus.specs.Reflects.{Reflects, holds, fails, reflects-eqb, reflects-map, decided}
+use Rattle.calculus.specs.Formula.{Term, var, con, Fmla, truth, rel, eq, neg, conj, disj, exists, fv, fv-term, fv-terms, size, Node, node, nodes, relations, places}
+use Rattle.calculus.specs.Satisfaction.{Pool, Database, Env, bind, fact, constant, value, values, Sat, InRecord, known}
+use Rattle.calculus.specs.Satisfaction.Laws.{bind-other, known-record, known-constant, known-conj-left, known-conj-right}
+use Rattle.calculus.specs.Propagation.{exists-free, cp}
+use Rattle.calculus.specs.Substitution.{subst-for}
+use Rattle.calculus.specs.Generation.{Ap, ap-rel, ap-eq, Gen, gen-false, gen-atom, gen-neg-neg, gen-neg-disj, gen-neg-conj, gen-disj, gen-conj-left, gen-conj-right, gen-conj-eq, gen-conj-eq′, gen-exists, Generated}
+use Rattle.calculus.specs.Generation.Laws.{Equates, origin, sat-neg-conj, sat-neg-neg}
+use Rattle.calculus.specs.Generators.{Leaves, leaf-where, first, both, other-of, equated, through, plain, denied, is-none, GenAt, at-false, at-atom, at-neg-neg, at-neg-disj-left, at-neg-disj-right, at-neg-conj, at-disj, at-conj-left, at-conj-right, at-conj-eq, at-conj-eq′, at-exists, Answered, generated-by, not-generated, Source, SourceAmong}
+
+-- ---- the 000 half of GenAt is 000's gen
+
+pub gen-at-gen : {x n : ℕ} {φ : Fmla} {G : List Fmla} {L : List ℕ} → GenAt x φ n G L → Gen x φ G
+gen-at-gen at-false = gen-false
+gen-at-gen (at-atom a i) = gen-atom a i
+gen-at-gen (at-neg-neg d) = gen-neg-neg (gen-at-gen d)
+gen-at-gen (at-neg-disj-left d) = gen-neg-disj (gen-conj-left (gen-at-gen d))
+gen-at-gen (at-neg-disj-right d) = gen-neg-disj (gen-conj-right (gen-at-gen d))
+gen-at-gen (at-neg-conj d e) = gen-neg-conj (gen-disj (gen-at-gen d) (gen-at-gen e))
+gen-at-gen (at-disj d e) = gen-disj (gen-at-gen d) (gen-at-gen e)
+gen-at-gen (at-conj-left d) = gen-conj-left (gen-at-gen d)
+gen-at-gen (at-conj-right d) = gen-conj-right (gen-at-gen d)
+gen-at-gen (at-conj-eq d) = gen-conj-eq (gen-at-gen d)
+gen-at-gen (at-conj-eq′ d) = gen-conj-eq′ (gen-at-gen d)
+gen-at-gen (at-exists n d) = gen-exists n (gen-at-gen d)
+
+-- ---- equalities
+
+left-of : Fmla → ℕ
+left-of (truth b) = 0
+left-of (rel r ts) = 0
+left-of (eq x t) = x
+left-of (neg φ) = 0
+left-of (conj φ ψ) = 0
+left-of (disj φ ψ) = 0
+left-of (exists z φ) = 0
+
+right-term : Term → ℕ
+right-term (var y) = y
+right-term (con p) = 0
+
+right-of : Fmla → ℕ
+unfolding right-term
+right-of (truth b) = 0
+right-of (rel r ts) = 0
+right-of (eq x t) = right-term t
+right-of (neg φ) = 0
+right-of (conj φ ψ) = 0
+right-of (disj φ ψ) = 0
+right-of (exists z φ) = 0
+
+-- Two equal equalities of variables have equal sides.
+eq-sides : {x y u v : ℕ} → eq x (var y) ≡ eq u (var v) → (x ≡ u) × (y ≡ v)
+unfolding left-of right-of right-term
+eq-sides e = (ap left-of e, ap right-of e)
+
+-- Where x is equated with another, there is one other.
+equates-one : {ψ : Fmla} {x y z : ℕ} → x ≢ y → Equates ψ x y → Equates ψ x z → y ≡ z
+equates-one n (inl p) (inl q) = eq-sides (sym p ∙ q) .1
+equates-one n (inl p) (inr q) = absurd (n (sym (eq-sides (sym p ∙ q) .1)))
+equates-one n (inr p) (inl q) = absurd (n (sym (eq-sides (sym p ∙ q) .0)))
+equates-one n (inr p) (inr q) = eq-sides (sym p ∙ q) .0
+
+-- The answers of `equated`: the other variable, or none where there is none.
+data EquatedView (ψ : Fmla) (x : ℕ) : Option ℕ → Type 0 where
+  equates : {y : ℕ} → x ≢ y → Equates ψ x y → EquatedView ψ x (some y)
+  equates-none : ((y : ℕ) → x ≢ y → ¬ Equates ψ x y) → EquatedView ψ x none
+
+abbrev is-var-eq : Fmla → Type 0
+is-var-eq (truth b) = ⊥
+is-var-eq (rel r ts) = ⊥
+is-var-eq (eq x (var y)) = Unit {0}
+is-var-eq (eq x (con p)) = ⊥
+is-var-eq (neg φ) = ⊥
+is-var-eq (conj φ ψ) = ⊥
+is-var-eq (disj φ ψ) = ⊥
+is-var-eq (exists z φ) = ⊥
+
+-- A formula that is no equality of variables equates nothing.
+equates-var-eq : (ψ : Fmla) (x y : ℕ) → Equates ψ x y → is-var-eq ψ
+equates-var-eq ψ x y (inl e) = subst⁻¹ is-var-eq e tt
+equates-var-eq ψ x y (inr e) = subst⁻¹ is-var-eq e tt
+
+no-equality : (ψ : Fmla) (x : ℕ) → ¬ is-var-eq ψ → EquatedView ψ x none
+no-equality ψ x n = equates-none (λ y m e. n (equates-var-eq ψ x y e))
+
+equated-view : (ψ : Fmla) (x : ℕ) → EquatedView ψ x (equated ψ x)
+equated-view (truth b) x = no-equality (truth b) x (λ t. t)
+equated-view (rel r ts) x = no-equality (rel r ts) x (λ t. t)
+equated-view (eq y (con p)) x = no-equality (eq y (con p)) x (λ t. t)
+equated-view (neg φ) x = no-equality (neg φ) x (λ t. t)
+equated-view (conj φ ψ) x = no-equality (conj φ ψ) x (λ t. t)
+equated-view (disj φ ψ) x = no-equality (disj φ ψ) x (λ t. t)
+equated-view (exists z φ) x = no-equality (exists z φ) x (λ t. t)
+equated-view (eq y (var z)) x = go (reflects-eqb y z) (reflects-eqb x y) (reflects-eqb x z)
+  where
+    ψ : Fmla
+    ψ = eq y (var z)
+    sides : (u : ℕ) → Equates ψ x u → ((y ≡ x) × (z ≡ u)) ⊎ ((y ≡ u) × (z ≡ x))
+    sides u (inl e) = inl (eq-sides e)
+    sides u (inr e) = inr (eq-sides e)
+    same : y ≡ z → (u : ℕ) → x ≢ u → ¬ Equates ψ x u
+    same e u n q = ⊎-elim (λ s. n (sym (s .0) ∙ e ∙ s .1)) (λ s. n (sym (s .1) ∙ sym e ∙ s .0)) (sides u q)
+    go : {a b c : Bool} → Reflects (y ≡ z) a → Reflects (x ≡ y) b → Reflects (x ≡ z) c → EquatedView ψ x (cond a none (cond b (some z) (cond c (some y) none)))
+    go (holds e) r s = equates-none (same e)
+    go (fails n) (holds e) s = equates (λ f. n (sym e ∙ f)) (inl (ap (λ u. eq u (var z)) (sym e)))
+    go (fails n) (fails m) (holds e) = equates m (inr (ap (λ u. eq y (var u)) (sym e)))
+    go (fails n) (fails m) (fails k) = equates-none (λ u l q. ⊎-elim (λ s. m (sym (s .0))) (λ s. k (sym (s .1))) (sides u q))
+
+-- ---- the order's answers are right
+
+leaf-answered : {x n : ℕ} {φ : Fmla} {b : Bool} → Ap φ → (Generated x φ → In x (fv φ)) → Reflects (In x (fv φ)) b → Answered x φ n (leaf-where b n)
+leaf-answered {φ = φ} a f (holds i) = generated-by (φ ∷ []) (at-atom a i)
+leaf-answered a f (fails m) = not-generated (λ g. m (f g))
+
+-- By equality: as φ generates the other variable.
+through-answered : {x n : ℕ} {φ ψ : Fmla} {o : Option ℕ} (f : ℕ → Leaves) → EquatedView ψ x o → ((y : ℕ) → Answered y φ n (f y)) → ¬ Generated x φ → ¬ Generated x ψ → Answered x (conj φ ψ) n (through o f)
+through-answered {x} {n} {φ} {ψ} f (equates {y} m q) a p r = go (a y)
+  where
+    none-else : ¬ Generated y φ → ¬ Generated x (conj φ ψ)
+    none-else k g = ⊎-elim (λ d. p (g .0, d)) (⊎-elim (λ d. r (g .0, d)) (λ t. k (subst (λ u. Generated u φ) (sym (equates-one m q (t .1))) (t .2)))) (origin (g .1))
+    by : {G : List Fmla} {L : List ℕ} → Equates ψ x y → GenAt y φ n G L → GenAt x (conj φ ψ) n (map (λ χ. cp (subst-for χ y x)) G) L
+    by {G} {L} (inl e) d = subst⁻¹ (λ u. GenAt x (conj φ u) n (map (λ χ. cp (subst-for χ y x)) G) L) e (at-conj-eq d)
+    by {G} {L} (inr e) d = subst⁻¹ (λ u. GenAt x (conj φ u) n (map (λ χ. cp (subst-for χ y x)) G) L) e (at-conj-eq′ d)
+    go : {l : Leaves} → Answered y φ n l → Answered x (conj φ ψ) n l
+    go (generated-by G d) = generated-by (map (λ χ. cp (subst-for χ y x)) G) (by q d)
+    go (not-generated k) = not-generated (none-else k)
+through-answered {x} {n} {φ} {ψ} f (equates-none m) a p r = not-generated (λ g. ⊎-elim (λ d. p (g .0, d)) (⊎-elim (λ d. r (g .0, d)) (λ t. other (t .0) (t .1) (t .2))) (origin (g .1)))
+  where
+    other : (y : ℕ) → Equates ψ x y → ¬ Generated y φ
+    other y q g = ⊎-elim (λ e. p (subst⁻¹ (λ u. Generated u φ) e g)) (λ k. m y k q) (decided (reflects-eqb x y))
+
+conj-answered : {x n : ℕ} {φ ψ : Fmla} {a b c : Leaves} → Answered x φ n a → Answered x ψ (n + size φ) b → (¬ Generated x φ → ¬ Generated x ψ → Answered x (conj φ ψ) n c) → Answered x (conj φ ψ) n (first a (first b c))
+conj-answered (generated-by G d) r k = generated-by G (at-conj-left d)
+conj-answered (not-generated p) (generated-by G d) k = generated-by G (at-conj-right d)
+conj-answered (not-generated p) (not-generated q) k = k p q
+
+disj-answered : {x n : ℕ} {φ ψ : Fmla} {a b : Leaves} → Answered x φ n a → Answered x ψ (n + size φ) b → Answered x (disj φ ψ) n (both a b)
+disj-answered (generated-by G d) (generated-by H e) = generated-by (G ++ H) (at-disj d e)
+disj-answered (generated-by G d) (not-generated q) = not-generated (λ g. q (origin (g .1) .1))
+disj-answered (not-generated p) (generated-by H e) = not-generated (λ g. p (origin (g .1) .0))
+disj-answered (not-generated p) (not-generated q) = not-generated (λ g. p (origin (g .1) .0))
+
+neg-conj-answered : {x n : ℕ} {φ ψ : Fmla} {a b : Leaves} → Answered x (neg φ) n a → Answered x (neg ψ) (n + size φ) b → Answered x (neg (conj φ ψ)) n (both a b)
+neg-conj-answered (generated-by G d) (generated-by H e) = generated-by (G ++ H) (at-neg-conj d e)
+neg-conj-answered (generated-by G d) (not-generated q) = not-generated (λ g. q (origin (origin (g .1)) .1))
+neg-conj-answered (not-generated p) (generated-by H e) = not-generated (λ g. p (origin (origin (g .1)) .0))
+neg-conj-answered (not-generated p) (not-generated q) = not-generated (λ g. p (origin (origin (g .1)) .0))
+
+neg-disj-answered : {x n : ℕ} {φ ψ : Fmla} {a b : Leaves} → Answered x (neg φ) n a → Answered x (neg ψ) (n + size φ) b → Answered x (neg (disj φ ψ)) n (first a b)
+neg-disj-answered (generated-by G d) r = generated-by G (at-neg-disj-left d)
+neg-disj-answered (not-generated p) (generated-by G d) = generated-by G (at-neg-disj-right d)
+neg-disj-answered {x} {φ = φ} {ψ} (not-generated p) (not-generated q) =
+    not-generated (λ g. ⊎-elim (λ d. p (g .0, d)) (⊎-elim (λ d. q (g .0, d)) (λ t. equates-var-eq (neg ψ) x (t .0) (t .1))) (origin (origin (g .1))))
+
+neg-neg-answered : {x n : ℕ} {φ : Fmla} {a : Leaves} → Answered x φ n a → Answered x (neg (neg φ)) n a
+neg-neg-answered (generated-by G d) = generated-by G (at-neg-neg d)
+neg-neg-answered (not-generated p) = not-generated (λ g. p (g .0, origin (g .1)))
+
+exists-answered : {x z n : ℕ} {φ : Fmla} {a : Leaves} {b : Bool} → Reflects (x ≡ z) b → Answered x φ n a → Answered x (exists z φ) n (cond b none a)
+exists-answered (holds e) r = not-generated (λ g. origin (g .1) .0 e)
+exists-answered {z = z} (fails m) (generated-by G d) = generated-by (map (exists-free z) G) (at-exists m d)
+exists-answered (fails m) (not-generated p) = not-generated (λ g. p (origin (g .1) .1))
+
+-- Document 01's order is right at every node, judged plainly or as denied.
+mutual
+  pub plain-answered : (φ : Fmla) (n x : ℕ) → Answered x φ n (plain φ n x)
+  plain-answered (truth true) n x = not-generated (λ g. origin (g .1))
+  plain-answered (truth false) n x = generated-by [] at-false
+  plain-answered (rel r ts) n x = leaf-answered ap-rel (λ g. origin (g .1)) (reflects-member x (fv-terms ts))
+  plain-answered (eq y (var z)) n x = not-generated (λ g. origin (g .1))
+  plain-answered (eq y (con p)) n x = leaf-answered ap-eq (λ g. here (origin (g .1))) (reflects-map here in-one (reflects-eqb x y))
+  plain-answered (neg φ) n x = denied-answered φ n x
+  plain-answered (conj φ ψ) n x = conj-answered (plain-answered φ n x) (plain-answered ψ (n + size φ) x) (through-answered (λ y. plain φ n y) (equated-view ψ x) (λ y. plain-answered φ n y))
+  plain-answered (disj φ ψ) n x = disj-answered (plain-answered φ n x) (plain-answered ψ (n + size φ) x)
+  plain-answered (exists z φ) n x = exists-answered (reflects-eqb x z) (plain-answered φ n x)
+
+  pub denied-answered : (φ : Fmla) (n x : ℕ) → Answered x (neg φ) n (denied φ n x)
+  denied-answered (truth b) n x = not-generated (λ g. origin (g .1))
+  denied-answered (rel r ts) n x = not-generated (λ g. origin (g .1))
+  denied-answered (eq y t) n x = not-generated (λ g. origin (g .1))
+  denied-answered (neg φ) n x = neg-neg-answered (plain-answered φ n x)
+  denied-answered (conj φ ψ) n x = neg-conj-answered (denied-answered φ n x) (denied-answered ψ (n + size φ) x)
+  denied-answered (disj φ ψ) n x = neg-disj-answered (denied-answered φ n x) (denied-answered ψ (n + size φ) x)
+  denied-answered (exists z φ) n x = not-generated (λ g. origin (g .1))
+
+-- "none" is answered exactly where 000 allows no set.
+pub reflects-generated : (φ : Fmla) (n x : ℕ) → Reflects (Generated x φ) (not (is-none (plain φ n x)))
+reflects-generated φ n x = go (plain-answered φ n x)
+  where
+    go : {l : Leaves} → Answered x φ n l → Reflects (Generated x φ) (not (is-none l))
+    go (generated-by G d) = holds (G, gen-at-gen d)
+    go (not-generated p) = fails p
+
+pub generated-decided : (x : ℕ) (φ : Fmla) → Generated x φ ⊎ (¬ Generated x φ)
+generated-decided x φ = decided (reflects-generated φ 0 x)
+
+-- ---- where a generated variable has its value from
+
+formula-of : Node → Fmla
+formula-of (node n φ) = φ
+
+-- A variable of a record's terms has one of the record's values.
+in-values : (pool : Pool) (σ : Env) (x : ℕ) (ts : List Term) → In x (fv-terms ts) → In (σ x) (values pool σ ts)
+in-values pool σ x ts i = let s = from-union fv-term ts i in subst (λ u. In u (values pool σ ts)) (at-term (s .0) (s .2)) (in-map (value pool σ) (s .1))
+  where
+    at-term : (t : Term) → In x (fv-term t) → value pool σ t ≡ σ x
+    at-term (var y) j = ap σ (sym (in-one j))
+    at-term (con p) j = absurd (in-nil j)
+
+module _ (pool : Pool) (D : Database) where
+  -- A leaf stays one when more nodes are numbered about it.
+  among-more : (φ : Fmla) (n : ℕ) (ψ : Fmla) (m : ℕ) {L M : List ℕ} {v : ℕ} → L ⊆ M → nodes φ n ⊆ nodes ψ m → SourceAmong pool D φ n L v → SourceAmong pool D ψ m M v
+  among-more φ n ψ m l h s = (s .0, s .1, l (s .0) (s .2), h (node (s .0) (s .1)) (s .3), s .4)
+
+  -- A not is no leaf.
+  among-neg : (φ : Fmla) (n : ℕ) {L : List ℕ} {v : ℕ} → SourceAmong pool D (neg φ) n L v → SourceAmong pool D φ n L v
+  unfolding formula-of
+  among-neg φ n {v = v} s = (s .0, s .1, s .2, ⊎-elim (λ i. i) (λ i. absurd (subst (λ χ. Source pool D χ v) (ap formula-of (in-one i)) (s .4))) (in-append (nodes φ n) (s .3)), s .4)
+
+  left-node : (φ ψ : Fmla) (n : ℕ) (rest : List Node) → nodes φ n ⊆ (nodes φ n ++ nodes ψ (n + size φ) ++ rest)
+  left-node φ ψ n rest u i = in-left rest (in-left (nodes ψ (n + size φ)) i)
+
+  right-node : (φ ψ : Fmla) (n : ℕ) (rest : List Node) → nodes ψ (n + size φ) ⊆ (nodes φ n ++ nodes ψ (n + size φ) ++ rest)
+  right-node φ ψ n rest u i = in-left rest (in-right (nodes φ n) i)
+
+  -- From the left and from the right subtree, for an and or an or with root k, and for a not above it with root l.
+  from-left : (φ ψ χ : Fmla) (n k : ℕ) {L M : List ℕ} {v : ℕ} → L ⊆ M → (nodes φ n ++ nodes ψ (n + size φ) ++ (node k χ ∷ [])) ⊆ nodes χ n → SourceAmong pool D φ n L v → SourceAmong pool D χ n M v
+  from-left φ ψ χ n k l h s = among-more φ n χ n l (λ u i. h u (left-node φ ψ n (node k χ ∷ []) u i)) s
+
+  from-right : (φ ψ χ : Fmla) (n k : ℕ) {L M : List ℕ} {v : ℕ} → L ⊆ M → (nodes φ n ++ nodes ψ (n + size φ) ++ (node k χ ∷ [])) ⊆ nodes χ n → SourceAmong pool D ψ (n + size φ) L v → SourceAmong pool D χ n M v
+  from-right φ ψ χ n k l h s = among-more ψ (n + size φ) χ n l (λ u i. h u (right-node φ ψ n (node k χ ∷ []) u i)) s
+
+  -- From below a not.
+  from-below : (φ : Fmla) (n : ℕ) {L : List ℕ} {v : ℕ} → SourceAmong pool D φ n L v → SourceAmong pool D (neg φ) n L v
+  from-below φ n s = among-more φ n (neg φ) n (λ u i. i) (λ u i. in-left (node (n + size φ) (neg φ) ∷ []) i) s
+
+  -- A generated variable of a satisfied formula has its value from one of the leaves.
+  pub leaf-value : {x n : ℕ} {φ : Fmla} {G : List Fmla} {L : List ℕ} → GenAt x φ n G L → (σ : Env) → Sat pool D φ σ → SourceAmong pool D φ n L (σ x)
+  leaf-value at-false σ s = absurd s
+  leaf-value (at-atom {x} {n} (ap-rel {r} {ts}) i) σ s = (n, rel r ts, here refl, here refl, (values pool σ ts, s, in-values pool σ x ts i))
+  leaf-value (at-atom {x} {n} (ap-eq {x = y} {p}) i) σ s = (n, eq y (con p), here refl, here refl, ap σ (in-one i) ∙ s)
+  leaf-value (at-neg-neg {n = n} {φ} d) σ s = from-below (neg φ) n (from-below φ n (leaf-value d σ (sat-neg-neg pool D φ σ s)))
+  leaf-value (at-neg-disj-left {n = n} {φ} {ψ} d) σ s =
+      from-below (disj φ ψ) n (from-left φ ψ (disj φ ψ) n (n + (size φ + size ψ)) (λ u i. i) (λ u i. i) (among-neg φ n (leaf-value d σ (λ t. s (inl t)))))
+  leaf-value (at-neg-disj-right {n = n} {φ} {ψ} d) σ s =
+      from-below (disj φ ψ) n (from-right φ ψ (disj φ ψ) n (n + (size φ + size ψ)) (λ u i. i) (λ u i. i) (among-neg ψ (n + size φ) (leaf-value d σ (λ t. s (inr t)))))
+  leaf-value (at-neg-conj {n = n} {φ} {ψ} {L = L} {M} d e) σ s =
+      from-below (conj φ ψ) n
+      (⊎-elim
+      (λ t. from-left φ ψ (conj φ ψ) n (n + (size φ + size ψ)) (λ u i. in-left M i) (λ u i. i) (among-neg φ n (leaf-value d σ t)))
+      (λ t. from-right φ ψ (conj φ ψ) n (n + (size φ + size ψ)) (λ u i. in-right L i) (λ u i. i) (among-neg ψ (n + size φ) (leaf-value e σ t)))
+      (sat-neg-conj pool D φ ψ σ s))
+  leaf-value (at-disj {n = n} {φ} {ψ} {L = L} {M} d e) σ s =
+      ⊎-elim
+      (λ t. from-left φ ψ (disj φ ψ) n (n + (size φ + size ψ)) (λ u i. in-left M i) (λ u i. i) (leaf-value d σ t))
+      (λ t. from-right φ ψ (disj φ ψ) n (n + (size φ + size ψ)) (λ u i. in-right L i) (λ u i. i) (leaf-value e σ t))
+      s
+  leaf-value (at-conj-left {n = n} {φ} {ψ} d) σ s = from-left φ ψ (conj φ ψ) n (n + (size φ + size ψ)) (λ u i. i) (λ u i. i) (leaf-value d σ (s .0))
+  leaf-value (at-conj-right {n = n} {φ} {ψ} d) σ s = from-right φ ψ (conj φ ψ) n (n + (size φ + size ψ)) (λ u i. i) (λ u i. i) (leaf-value d σ (s .1))
+  leaf-value (at-conj-eq {x} {y} {n} {φ} {L = L} d) σ s =
+      from-left φ (eq x (var y)) (conj φ (eq x (var y))) n (n + (size φ + 1)) (λ u i. i) (λ u i. i) (subst⁻¹ (λ v. SourceAmong pool D φ n L v) (s .1) (leaf-value d σ (s .0)))
+  leaf-value (at-conj-eq′ {x} {y} {n} {φ} {L = L} d) σ s =
+      from-left φ (eq y (var x)) (conj φ (eq y (var x))) n (n + (size φ + 1)) (λ u i. i) (λ u i. i) (subst (λ v. SourceAmong pool D φ n L v) (s .1) (leaf-value d σ (s .0)))
+  leaf-value (at-exists {x} {y} {n} {φ} {L = L} m d) σ s =
+      among-more φ n (exists y φ) n (λ u i. i) (λ u i. in-left (node (n + size φ) (exists y φ) ∷ []) i)
+      (subst (λ v. SourceAmong pool D φ n L v) (bind-other y (s .0) σ x m) (leaf-value d (bind y (s .0) σ) (s .1)))
+
+  -- The root is a node that knows as much.
+  root : (φ : Fmla) (n p : ℕ) (χ : Fmla) → In (node p χ) (node n φ ∷ []) → known pool D χ ⊆ known pool D φ
+  unfolding formula-of
+  root φ n p χ i v j = subst (λ u. In v (known pool D u)) (ap formula-of (in-one i)) j
+
+  inner : (φ ψ χ : Fmla) (k n p : ℕ) (ω : Fmla) → known pool D χ ≡ known pool D (conj φ ψ) → (In (node p ω) (nodes φ n) → known pool D ω ⊆ known pool D φ) → (In (node p ω) (nodes ψ (n + size φ)) → known pool D ω ⊆ known pool D ψ) → In (node p ω) (nodes φ n ++ nodes ψ (n + size φ) ++ (node k χ ∷ [])) → known pool D ω ⊆ known pool D χ
+  inner φ ψ χ k n p ω e f g i =
+      ⊎-elim
+      (λ j. ⊎-elim
+      (λ l v u. subst⁻¹ (In v) e (known-conj-left pool D φ ψ v (f l v u)))
+      (λ l v u. subst⁻¹ (In v) e (known-conj-right pool D φ ψ v (g l v u)))
+      (in-append (nodes φ n) j))
+      (root χ k p ω)
+      (in-append (nodes φ n ++ nodes ψ (n + size φ)) i)
+
+  -- What a node knows, its formula knows.
+  pub node-known : (φ : Fmla) (n p : ℕ) (χ : Fmla) → In (node p χ) (nodes φ n) → known pool D χ ⊆ known pool D φ
+  node-known (truth b) n p χ i = root (truth b) n p χ i
+  node-known (rel r ts) n p χ i = root (rel r ts) n p χ i
+  node-known (eq x t) n p χ i = root (eq x t) n p χ i
+  node-known (neg φ) n p χ i = ⊎-elim (node-known φ n p χ) (root (neg φ) (n + size φ) p χ) (in-append (nodes φ n) i)
+  node-known (conj φ ψ) n p χ i = inner φ ψ (conj φ ψ) (n + (size φ + size ψ)) n p χ refl (node-known φ n p χ) (node-known ψ (n + size φ) p χ) i
+  node-known (disj φ ψ) n p χ i = inner φ ψ (disj φ ψ) (n + (size φ + size ψ)) n p χ refl (node-known φ n p χ) (node-known ψ (n + size φ) p χ) i
+  node-known (exists z φ) n p χ i = ⊎-elim (node-known φ n p χ) (root (exists z φ) (n + size φ) p χ) (in-append (nodes φ n) i)
+
+  -- A value from a leaf is known to the leaf.
+  source-known : (χ : Fmla) (v : ℕ) → Source pool D χ v → In v (known pool D χ)
+  source-known (truth b) v s = absurd s
+  source-known (rel r ts) v s = known-record pool D (rel r ts) (here refl) s
+  source-known (eq x (var y)) v s = absurd s
+  source-known (eq x (con p)) v s = subst⁻¹ (λ u. In u (known pool D (eq x (con p)))) s (known-constant pool D (eq x (con p)) (here refl))
+  source-known (neg φ) v s = absurd s
+  source-known (conj φ ψ) v s = absurd s
+  source-known (disj φ ψ) v s = absurd s
+  source-known (exists z φ) v s = absurd s
+
+  -- A generated variable of a satisfied formula has a known value.
+  pub generated-known : (x : ℕ) (φ : Fmla) → Generated x φ → (σ : Env) → Sat pool D φ σ → In (σ x) (known pool D φ)
+  generated-known x φ g σ s = go (plain-answered φ 0 x)
+    where
+      go : {l : Leaves} → Answered x φ 0 l → In (σ x) (known pool D φ)
+      go (generated-by G d) = let a = leaf-value d σ s in node-known φ 0 (a .0) (a .1) (a .3) (σ x) (source-known (a .1) (σ x) (a .4))
+      go (not-generated n) = absurd (n g)

@@ -1,0 +1,13 @@
+pub mod Sets
+pub mod Reflects
+pub mod Iff
+pub mod Formula
+pub mod Satisfaction
+pub mod Propagation
+pub mod Substitution
+pub mod Generation
+pub mod Generators
+pub mod SafeRange
+pub mod Order
+pub mod Rows
+pub mod Evaluation

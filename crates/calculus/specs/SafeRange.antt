@@ -1,0 +1,33 @@
+-- Safe-range queries: 000, 2.9, and document 01's widening. Definitions only; the laws are in SafeRange/Laws.antt.
+use Prim.Native.Nat.{ℕ}
+use mathlib.Core.List.{List}
+use Rattle.calculus.specs.Sets.{In}
+use Rattle.calculus.specs.Formula.{Fmla, exists, fv, node, nodes}
+use Rattle.calculus.specs.Propagation.{cp}
+use Rattle.calculus.specs.Generation.{Generated}
+pub mod Laws
+
+-- 000: Exists y Qy ∈ sub Q (2.4), at some node.
+abbrev pub HasNode : Fmla → Fmla → Type 0
+HasNode φ χ = (n : ℕ) × In (node n χ) (nodes φ 0)
+
+-- 000: x ∈ nongens Q.
+abbrev pub Nongen : Fmla → ℕ → Type 0
+Nongen φ x = In x (fv φ) × ¬ Generated x φ
+
+-- 000: rrf Q, nongens Q = {}.
+abbrev pub Rrf : Fmla → Type 0
+Rrf φ = (x : ℕ) → ¬ Nongen φ x
+
+-- 000: rrb Q.
+abbrev pub Rrb : Fmla → Type 0
+Rrb φ = (y : ℕ) (ψ : Fmla) → HasNode φ (exists y ψ) → Generated y ψ
+
+-- 000: sr Q, of a formula as it stands.
+abbrev pub Sr : Fmla → Type 0
+Sr φ = Rrf φ × Rrb φ
+
+-- Document 01's safe-range: the free variables of the query as read are generated in its form, and so is the variable of each exists of
+-- the form in its child.
+abbrev pub SafeRange : Fmla → Type 0
+SafeRange φ = ((x : ℕ) → In x (fv φ) → Generated x (cp φ)) × Rrb (cp φ)
