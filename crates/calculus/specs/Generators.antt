@@ -3,7 +3,7 @@
 use Prim.Native.Nat.{ℕ, _+_}
 use mathlib.Core.Path.{_≡_}
 use mathlib.Core.Logic.{_≢_}
-use mathlib.Core.Bool.{Bool, true, false, cond}
+use mathlib.Core.Bool.{Bool, true, false, _&&_, cond}
 use mathlib.Core.List.{List, [], _∷_, _++_, map}
 use mathlib.Core.Option.{Option, none, some}
 use lib.Dec.{eqb, ltb}
@@ -162,4 +162,4 @@ is-empty (x ∷ xs) = false
 
 -- Safe-range: both reports are empty.
 abbrev pub safe : Verdict → Bool
-safe v = cond (is-empty (v .ungenerated)) (is-empty (v .unranged)) false
+safe v = is-empty (v .ungenerated) && is-empty (v .unranged)

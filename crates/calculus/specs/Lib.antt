@@ -11,3 +11,4 @@ pub mod SafeRange
 pub mod Order
 pub mod Rows
 pub mod Evaluation
+pub mod Cases

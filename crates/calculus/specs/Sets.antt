@@ -51,9 +51,13 @@ abbrev pub fresh : List ℕ → ℕ
 fresh [] = zero
 fresh (x ∷ xs) = max (suc x) (fresh xs)
 
--- Whether two lists of numbers are the same list.
+-- Whether two lists are the same, by a test for their elements.
+abbrev pub same-by : {A : Type 0} → (A → A → Bool) → List A → List A → Bool
+same-by same [] [] = true
+same-by same [] (y ∷ ys) = false
+same-by same (x ∷ xs) [] = false
+same-by same (x ∷ xs) (y ∷ ys) = same x y && same-by same xs ys
+
+-- Whether two lists of numbers are the same.
 abbrev pub same-list : List ℕ → List ℕ → Bool
-same-list [] [] = true
-same-list [] (y ∷ ys) = false
-same-list (x ∷ xs) [] = false
-same-list (x ∷ xs) (y ∷ ys) = eqb x y && same-list xs ys
+same-list xs ys = same-by eqb xs ys

@@ -196,15 +196,19 @@ mutual
   denied-answered (exists z φ) n x = not-generated (λ g. origin (g .1))
 
 -- "none" is answered exactly where 000 allows no set.
-pub reflects-generated : (φ : Fmla) (n x : ℕ) → Reflects (Generated x φ) (not (is-none (plain φ n x)))
-reflects-generated φ n x = go (plain-answered φ n x)
+pub reflects-none : (φ : Fmla) (n x : ℕ) → Reflects (¬ Generated x φ) (is-none (plain φ n x))
+reflects-none φ n x = go (plain-answered φ n x)
   where
-    go : {l : Leaves} → Answered x φ n l → Reflects (Generated x φ) (not (is-none l))
-    go (generated-by G d) = holds (G, gen-at-gen d)
-    go (not-generated p) = fails p
+    go : {l : Leaves} → Answered x φ n l → Reflects (¬ Generated x φ) (is-none l)
+    go (generated-by G d) = fails (λ m. m (G, gen-at-gen d))
+    go (not-generated p) = holds p
 
 pub generated-decided : (x : ℕ) (φ : Fmla) → Generated x φ ⊎ (¬ Generated x φ)
-generated-decided x φ = decided (reflects-generated φ 0 x)
+generated-decided x φ = go (plain-answered φ 0 x)
+  where
+    go : {l : Leaves} → Answered x φ 0 l → Generated x φ ⊎ (¬ Generated x φ)
+    go (generated-by G d) = inl (G, gen-at-gen d)
+    go (not-generated p) = inr p
 
 -- ---- where a generated variable has its value from
 

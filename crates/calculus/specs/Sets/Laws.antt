@@ -1,12 +1,12 @@
 -- Laws of finite sets as lists.
 use Prim.Native.Nat.{ℕ, zero, suc, _<_, _≤_, max}
 use native.Mathlib.Nat.{lt-irrefl, le-max-left, le-max-right, le-trans, lt-of-lt-of-le}
-use mathlib.Core.Path.{_≡_, refl, sym, ap, subst, _∙_}
+use mathlib.Core.Path.{_≡_, refl, sym, ap, subst, subst⁻¹, _∙_}
 use mathlib.Core.Logic.{_↔_, _⊎_, inl, inr, ⊎-elim, _≢_}
 use mathlib.Core.Bool.{Bool, true, false, not, _&&_, _||_, cond}
 use mathlib.Core.List.{List, [], _∷_, _++_, map}
 use lib.Dec.{T, eqb}
-use Rattle.calculus.specs.Sets.{In, here, there, _⊆_, any-of, all-of, select, union-of, member, remove, fresh, same-list}
+use Rattle.calculus.specs.Sets.{In, here, there, _⊆_, any-of, all-of, select, union-of, member, remove, fresh, same-by, same-list}
 use Rattle.calculus.specs.Reflects.{Reflects, holds, fails, reflects, reflected, reflects-T, reflects-map, reflects-not, reflects-and, reflects-eqb, reflects-any, Any}
 
 pub in-nil : {A : Type 0} {x : A} → ¬ In x []
@@ -120,11 +120,15 @@ from-select {A} p {x} (y ∷ xs) i = go (p y) (λ t. t) (λ j. from-select p xs 
 
 -- ---- tests
 
-pub reflects-member : (x : ℕ) (xs : List ℕ) → Reflects (In x xs) (member x xs)
-reflects-member x xs = reflects-map found (λ i. (x, i, refl)) (reflects-any (eqb x) xs (λ y i. reflects-eqb x y))
+-- A member is found by a test for equality.
+pub reflects-in : {A : Type 0} (same : A → A → Bool) → ((x y : A) → Reflects (x ≡ y) (same x y)) → (x : A) (xs : List A) → Reflects (In x xs) (any-of (same x) xs)
+reflects-in same r x xs = reflects-map found (λ i. (x, i, refl)) (reflects-any (same x) xs (λ y i. r x y))
   where
     found : Any (λ y. x ≡ y) xs → In x xs
-    found s = subst (λ u. In u xs) (sym (s .2)) (s .1)
+    found s = subst⁻¹ (λ u. In u xs) (s .2) (s .1)
+
+pub reflects-member : (x : ℕ) (xs : List ℕ) → Reflects (In x xs) (member x xs)
+reflects-member x xs = reflects-in eqb reflects-eqb x xs
 
 pub reflects-all : {A : Type 0} {P : A → Type 0} (p : A → Bool) (xs : List A) → ((x : A) → Reflects (P x) (p x)) → Reflects ((x : A) → In x xs → P x) (all-of p xs)
 reflects-all p [] r = holds (λ x i. absurd (in-nil i))
@@ -136,24 +140,27 @@ reflects-all {A} {P} p (x ∷ xs) r = reflects-map join (λ h. (h x (here refl),
     join : P x × ((y : A) → In y xs → P y) → (y : A) → In y (x ∷ xs) → P y
     join h = join-at h
 
-tail-of : List ℕ → List ℕ
-tail-of [] = []
-tail-of (x ∷ xs) = xs
+module _ {A : Type 0} where
+  abbrev tail-of : List A → List A
+  tail-of [] = []
+  tail-of (x ∷ xs) = xs
 
-head-of : List ℕ → ℕ
-head-of [] = 0
-head-of (x ∷ xs) = x
+  abbrev head-of : A → List A → A
+  head-of d [] = d
+  head-of d (x ∷ xs) = x
 
-abbrev is-cons : List ℕ → Type 0
-is-cons [] = ⊥
-is-cons (x ∷ xs) = Unit {0}
+  abbrev is-cons : List A → Type 0
+  is-cons [] = ⊥
+  is-cons (x ∷ xs) = Unit {0}
+
+  pub reflects-same-by : (same : A → A → Bool) → ((x y : A) → Reflects (x ≡ y) (same x y)) → (xs ys : List A) → Reflects (xs ≡ ys) (same-by same xs ys)
+  reflects-same-by same r [] [] = holds refl
+  reflects-same-by same r [] (y ∷ ys) = fails (λ e. subst⁻¹ is-cons e tt)
+  reflects-same-by same r (x ∷ xs) [] = fails (λ e. subst is-cons e tt)
+  reflects-same-by same r (x ∷ xs) (y ∷ ys) = reflects-map (λ h i. h .0 i ∷ h .1 i) (λ e. (ap (head-of x) e, ap tail-of e)) (reflects-and (r x y) (reflects-same-by same r xs ys))
 
 pub reflects-same-list : (xs ys : List ℕ) → Reflects (xs ≡ ys) (same-list xs ys)
-unfolding tail-of head-of
-reflects-same-list [] [] = holds refl
-reflects-same-list [] (y ∷ ys) = fails (λ e. subst is-cons (sym e) tt)
-reflects-same-list (x ∷ xs) [] = fails (λ e. subst is-cons e tt)
-reflects-same-list (x ∷ xs) (y ∷ ys) = reflects-map (λ h i. h .0 i ∷ h .1 i) (λ e. (ap head-of e, ap tail-of e)) (reflects-and (reflects-eqb x y) (reflects-same-list xs ys))
+reflects-same-list = reflects-same-by eqb reflects-eqb
 
 -- ---- remove
 

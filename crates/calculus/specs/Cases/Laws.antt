@@ -1,0 +1,58 @@
+-- The worked cases are right: one computed test over the table, and one lemma that turns it into what each case says.
+use mathlib.Core.Path.{_≡_, refl, ap, subst, subst⁻¹}
+use mathlib.Core.Bool.{Bool, true, false, _&&_, Bool·beq}
+use mathlib.Core.List.{List, [], _∷_}
+use lib.Dec.{T}
+use Rattle.calculus.specs.Sets.{In, all-of, same-by, same-list}
+use Rattle.calculus.specs.Sets.Laws.{reflects-all, reflects-same-by, reflects-same-list}
+use Rattle.calculus.specs.Reflects.{Reflects, holds, fails, reflected, reflects-T, reflects-map, reflects-and}
+use Rattle.calculus.specs.Generators.{columns, Verdict, verdict, safe}
+use Rattle.calculus.specs.SafeRange.{SafeRange}
+use Rattle.calculus.specs.SafeRange.Answers.{safe-reflects, fv-columns}
+use Rattle.calculus.specs.Rows.{Row, Answers, endless, listed, Right}
+use Rattle.calculus.specs.Evaluation.{answers}
+use Rattle.calculus.specs.Evaluation.Laws.{answers-right}
+use Rattle.calculus.specs.Cases.{Case, cases, same-verdict, same-answers, passes, CaseRight}
+
+reflects-beq : (a b : Bool) → Reflects (a ≡ b) (Bool·beq a b)
+reflects-beq true true = holds refl
+reflects-beq true false = fails (λ e. subst T e tt)
+reflects-beq false true = fails (λ e. subst (λ b. T (Bool·beq false b)) e tt)
+reflects-beq false false = holds refl
+
+pub reflects-same-verdict : (v w : Verdict) → Reflects (v ≡ w) (same-verdict v w)
+reflects-same-verdict v w =
+    reflects-map
+    (λ h i. record { columns-read = h .0 .0 .0 i; generators = h .0 .0 .1 i; ungenerated = h .0 .1 i; unranged = h .1 i })
+    (λ e. (((ap (λ u. u .columns-read) e, ap (λ u. u .generators) e), ap (λ u. u .ungenerated) e), ap (λ u. u .unranged) e))
+    (reflects-and (reflects-and (reflects-and (reflects-same-list (v .columns-read) (w .columns-read)) (reflects-same-by same-list reflects-same-list (v .generators) (w .generators))) (reflects-same-list (v .ungenerated) (w .ungenerated))) (reflects-same-list (v .unranged) (w .unranged)))
+
+abbrev rows-of : Answers → List Row
+rows-of endless = []
+rows-of (listed l) = l
+
+abbrev is-listed : Answers → Bool
+is-listed endless = false
+is-listed (listed l) = true
+
+pub reflects-same-answers : (a b : Answers) → Reflects (a ≡ b) (same-answers a b)
+reflects-same-answers endless endless = holds refl
+reflects-same-answers endless (listed l) = fails (λ e. subst⁻¹ (λ a. T (is-listed a)) e tt)
+reflects-same-answers (listed l) endless = fails (λ e. subst (λ a. T (is-listed a)) e tt)
+reflects-same-answers (listed l) (listed m) = reflects-map (ap listed) (ap rows-of) (reflects-same-by same-list reflects-same-list l m)
+
+-- A case that passes the test is right.
+pub passes-right : (c : Case) → T (passes c) → CaseRight c
+passes-right c t = (h .0 .0, subst (Reflects (SafeRange (c .query))) (h .0 .1) (safe-reflects (c .query)), subst (Right (c .constants) (c .records) (c .query) (columns (c .query))) (h .1) (answers-right (c .constants) (c .records) (c .query) (columns (c .query)) (fv-columns (c .query))))
+  where
+    h : ((verdict (c .query) ≡ c .says) × (safe (verdict (c .query)) ≡ c .says-safe)) × (answers (c .constants) (c .records) (c .query) (columns (c .query)) ≡ c .gives)
+    h =
+        reflected
+        (reflects-and
+        (reflects-and (reflects-same-verdict (verdict (c .query)) (c .says)) (reflects-beq (safe (verdict (c .query))) (c .says-safe)))
+        (reflects-same-answers (answers (c .constants) (c .records) (c .query) (columns (c .query))) (c .gives)))
+        t
+
+-- Every case of the table is right.
+pub cases-right : (c : Case) → In c cases → CaseRight c
+cases-right c i = passes-right c (reflected (reflects-all passes cases (λ d. reflects-T (passes d))) tt c i)
