@@ -1,4 +1,4 @@
--- Document 01's worked cases over the store S, the starred ones, as one table. Definitions only; that the table is right is Cases/Laws.antt.
+-- Document 01's worked cases over the store S, the starred ones, and one for each of its traps that they leave open, as one table. Definitions only; that the table is right is Cases/Laws.antt.
 use Prim.Native.Nat.{ℕ}
 use mathlib.Core.Path.{_≡_}
 use mathlib.Core.Bool.{Bool, true, false, _&&_, Bool·beq}
@@ -11,6 +11,7 @@ use Rattle.calculus.specs.Generators.{columns, Verdict, verdict, safe}
 use Rattle.calculus.specs.SafeRange.{SafeRange}
 use Rattle.calculus.specs.Rows.{Answers, endless, listed, Right}
 use Rattle.calculus.specs.Evaluation.{answers}
+pub mod Test
 pub mod Laws
 
 -- A worked case: the records, the query with its constants, and what document 01 says of it.
@@ -34,13 +35,13 @@ y = var 1
 
 abbrev pub case : Database → Pool → Fmla → List ℕ → List (List ℕ) → List ℕ → List ℕ → Bool → Answers → Case
 case D pool φ cols gens ungen unrng safe-range rows =
-    record
-    { records = D
-    ; constants = pool
-    ; query = φ
-    ; says = record { columns-read = cols; generators = gens; ungenerated = ungen; unranged = unrng }
-    ; says-safe = safe-range
-    ; gives = rows
+    record {
+      records = D;
+      constants = pool;
+      query = φ;
+      says = record { columns-read = cols; generators = gens; ungenerated = ungen; unranged = unrng };
+      says-safe = safe-range;
+      gives = rows;
     }
 
 abbrev pub only : List ℕ → Answers
@@ -76,6 +77,8 @@ cases =
     -- exists y (0(x,y) or 1(x))
     ∷ case S [] (exists 1 (disj (rel 0 (x ∷ y ∷ [])) (rel 1 (x ∷ []))))
     (0 ∷ []) ((0 ∷ 1 ∷ []) ∷ []) [] (3 ∷ []) false (listed ((7 ∷ []) ∷ (9 ∷ []) ∷ []))
+    -- not 1(x) and exists x 1(x): document 01's trap of the inner bound variable, which doesn't generate the outer one
+    ∷ case S [] (conj (neg (rel 1 (x ∷ []))) (exists 0 (rel 1 (x ∷ [])))) (0 ∷ []) ([] ∷ []) (0 ∷ []) [] false endless
     ∷ []
 
 abbrev pub same-verdict : Verdict → Verdict → Bool

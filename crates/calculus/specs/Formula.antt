@@ -39,15 +39,19 @@ fv (conj φ ψ) = fv φ ++ fv ψ
 fv (disj φ ψ) = fv φ ++ fv ψ
 fv (exists z φ) = remove z (fv φ)
 
+-- The union, over the records and equalities of a formula, of what f gives of a record and g of an equality.
+abbrev pub gather : (ℕ → List Term → List ℕ) → (ℕ → Term → List ℕ) → Fmla → List ℕ
+gather f g (truth b) = []
+gather f g (rel r ts) = f r ts
+gather f g (eq x t) = g x t
+gather f g (neg φ) = gather f g φ
+gather f g (conj φ ψ) = gather f g φ ++ gather f g ψ
+gather f g (disj φ ψ) = gather f g φ ++ gather f g ψ
+gather f g (exists z φ) = gather f g φ
+
 -- The relations that a formula names.
 abbrev pub relations : Fmla → List ℕ
-relations (truth b) = []
-relations (rel r ts) = r ∷ []
-relations (eq x t) = []
-relations (neg φ) = relations φ
-relations (conj φ ψ) = relations φ ++ relations ψ
-relations (disj φ ψ) = relations φ ++ relations ψ
-relations (exists z φ) = relations φ
+relations φ = gather (λ r ts. r ∷ []) (λ x t. []) φ
 
 -- The places of the constants that a formula uses.
 abbrev pub places-term : Term → List ℕ
@@ -55,13 +59,7 @@ places-term (var x) = []
 places-term (con p) = p ∷ []
 
 abbrev pub places : Fmla → List ℕ
-places (truth b) = []
-places (rel r ts) = union-of places-term ts
-places (eq x t) = places-term t
-places (neg φ) = places φ
-places (conj φ ψ) = places φ ++ places ψ
-places (disj φ ψ) = places φ ++ places ψ
-places (exists z φ) = places φ
+places φ = gather (λ r ts. union-of places-term ts) (λ x t. places-term t) φ
 
 -- The number of nodes.
 abbrev pub size : Fmla → ℕ

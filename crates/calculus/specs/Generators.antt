@@ -149,11 +149,11 @@ pub record Verdict : Type 0 where
 
 abbrev pub verdict : Fmla → Verdict
 verdict φ =
-    record
-    { columns-read = columns φ
-    ; generators = map (λ x. leaves (plain (cp φ) 0 x)) (columns φ)
-    ; ungenerated = select (λ x. is-none (plain (cp φ) 0 x)) (columns φ)
-    ; unranged = union-of unranged-node (nodes (cp φ) 0)
+    record {
+      columns-read = columns φ;
+      generators = map (λ x. leaves (plain (cp φ) 0 x)) (columns φ);
+      ungenerated = select (λ x. is-none (plain (cp φ) 0 x)) (columns φ);
+      unranged = union-of unranged-node (nodes (cp φ) 0);
     }
 
 abbrev pub is-empty : List ℕ → Bool

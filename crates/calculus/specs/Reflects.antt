@@ -81,8 +81,10 @@ reflects-any {A} {P} p (x ∷ xs) r = reflects-map join split (reflects-or (r x 
     join : P x ⊎ Any P xs → Any P (x ∷ xs)
     join (inl h) = (x, here refl, h)
     join (inr s) = (s .0, there (s .1), s .2)
+
     split-at : (y : A) → In y (x ∷ xs) → P y → P x ⊎ Any P xs
     split-at y (here e) h = inl (subst P e h)
     split-at y (there i) h = inr (y, i, h)
+
     split : Any P (x ∷ xs) → P x ⊎ Any P xs
     split s = split-at (s .0) (s .1) (s .2)

@@ -13,6 +13,7 @@ use Rattle.calculus.specs.Rows.{Row, Answers, endless, listed, Right}
 use Rattle.calculus.specs.Evaluation.{answers}
 use Rattle.calculus.specs.Evaluation.Laws.{answers-right}
 use Rattle.calculus.specs.Cases.{Case, cases, same-verdict, same-answers, passes, CaseRight}
+use Rattle.calculus.specs.Cases.Test.{cases-pass}
 
 reflects-beq : (a b : Bool) → Reflects (a ≡ b) (Bool·beq a b)
 reflects-beq true true = holds refl
@@ -55,4 +56,4 @@ passes-right c t = (h .0 .0, subst (Reflects (SafeRange (c .query))) (h .0 .1) (
 
 -- Every case of the table is right.
 pub cases-right : (c : Case) → In c cases → CaseRight c
-cases-right c i = passes-right c (reflected (reflects-all passes cases (λ d. reflects-T (passes d))) tt c i)
+cases-right c i = passes-right c (reflected (reflects-all passes cases (λ d. reflects-T (passes d))) cases-pass c i)

@@ -26,10 +26,10 @@ Equates ψ x y = (ψ ≡ eq x (var y)) ⊎ (ψ ≡ eq y (var x))
 -- What a derivation of gen x φ G can have come from, by the shape of φ.
 abbrev pub Origin : ℕ → Fmla → List Fmla → Type 0
 Origin x (truth true) G = ⊥
-Origin x (truth false) G = Unit {0}
-Origin x (rel r ts) G = In x (fv-terms ts)
+Origin x (truth false) G = G ≡ []
+Origin x (rel r ts) G = In x (fv-terms ts) × (G ≡ rel r ts ∷ [])
 Origin x (eq y (var z)) G = ⊥
-Origin x (eq y (con p)) G = x ≡ y
+Origin x (eq y (con p)) G = (x ≡ y) × (G ≡ eq y (con p) ∷ [])
 Origin x (neg (truth b)) G = ⊥
 Origin x (neg (rel r ts)) G = ⊥
 Origin x (neg (eq y t)) G = ⊥
@@ -37,23 +37,23 @@ Origin x (neg (neg φ)) G = Gen x φ G
 Origin x (neg (conj φ ψ)) G = Gen x (disj (neg φ) (neg ψ)) G
 Origin x (neg (disj φ ψ)) G = Gen x (conj (neg φ) (neg ψ)) G
 Origin x (neg (exists z φ)) G = ⊥
-Origin x (conj φ ψ) G = Gen x φ G ⊎ (Gen x ψ G ⊎ ((y : ℕ) × Equates ψ x y × Generated y φ))
-Origin x (disj φ ψ) G = Generated x φ × Generated x ψ
-Origin x (exists y φ) G = (x ≢ y) × Generated x φ
+Origin x (conj φ ψ) G = Gen x φ G ⊎ (Gen x ψ G ⊎ ((y : ℕ) × Equates ψ x y × (g : Generated y φ) × (G ≡ map (λ χ. cp (subst-for χ y x)) (g .0))))
+Origin x (disj φ ψ) G = (g : Generated x φ) × (h : Generated x ψ) × (G ≡ g .0 ++ h .0)
+Origin x (exists y φ) G = (x ≢ y) × (g : Generated x φ) × (G ≡ map (exists-free y) (g .0))
 
 pub origin : {x : ℕ} {φ : Fmla} {G : List Fmla} → Gen x φ G → Origin x φ G
-origin gen-false = tt
-origin (gen-atom ap-rel i) = i
-origin (gen-atom ap-eq i) = in-one i
+origin gen-false = refl
+origin (gen-atom ap-rel i) = (i, refl)
+origin (gen-atom ap-eq i) = (in-one i, refl)
 origin (gen-neg-neg d) = d
 origin (gen-neg-disj d) = d
 origin (gen-neg-conj d) = d
-origin (gen-disj {G = G} {H = H} d e) = ((G, d), (H, e))
+origin (gen-disj {G = G} {H = H} d e) = ((G, d), (H, e), refl)
 origin (gen-conj-left d) = inl d
 origin (gen-conj-right d) = inr (inl d)
-origin (gen-conj-eq {y = y} {G = G} d) = inr (inr (y, inl refl, (G, d)))
-origin (gen-conj-eq′ {y = y} {G = G} d) = inr (inr (y, inr refl, (G, d)))
-origin (gen-exists {G = G} n d) = (n, (G, d))
+origin (gen-conj-eq {y = y} {G = G} d) = inr (inr (y, inl refl, (G, d), refl))
+origin (gen-conj-eq′ {y = y} {G = G} d) = inr (inr (y, inr refl, (G, d), refl))
+origin (gen-exists {G = G} n d) = (n, (G, d), refl)
 
 -- ---- a satisfied formula satisfies a generator
 

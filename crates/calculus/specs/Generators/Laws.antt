@@ -11,6 +11,7 @@ use Rattle.calculus.specs.Sets.{In, here, there, _⊆_}
 use Rattle.calculus.specs.Sets.Laws.{in-nil, in-one, in-left, in-right, in-append, in-map, from-union, reflects-member}
 use Rattle.calculus.specs.Reflects.{Reflects, holds, fails, reflects-eqb, reflects-map, decided}
 use Rattle.calculus.specs.Formula.{Term, var, con, Fmla, truth, rel, eq, neg, conj, disj, exists, fv, fv-term, fv-terms, size, Node, node, nodes, relations, places}
+use Rattle.calculus.specs.Formula.Laws.{formula-of}
 use Rattle.calculus.specs.Satisfaction.{Pool, Database, Env, bind, fact, constant, value, values, Sat, InRecord, known}
 use Rattle.calculus.specs.Satisfaction.Laws.{bind-other, known-record, known-constant, known-conj-left, known-conj-right}
 use Rattle.calculus.specs.Propagation.{exists-free, cp}
@@ -107,16 +108,70 @@ equated-view (eq y (var z)) x = go (reflects-eqb y z) (reflects-eqb x y) (reflec
   where
     ψ : Fmla
     ψ = eq y (var z)
+
     sides : (u : ℕ) → Equates ψ x u → ((y ≡ x) × (z ≡ u)) ⊎ ((y ≡ u) × (z ≡ x))
     sides u (inl e) = inl (eq-sides e)
     sides u (inr e) = inr (eq-sides e)
+
     same : y ≡ z → (u : ℕ) → x ≢ u → ¬ Equates ψ x u
     same e u n q = ⊎-elim (λ s. n (sym (s .0) ∙ e ∙ s .1)) (λ s. n (sym (s .1) ∙ sym e ∙ s .0)) (sides u q)
+
     go : {a b c : Bool} → Reflects (y ≡ z) a → Reflects (x ≡ y) b → Reflects (x ≡ z) c → EquatedView ψ x (cond a none (cond b (some z) (cond c (some y) none)))
     go (holds e) r s = equates-none (same e)
     go (fails n) (holds e) s = equates (λ f. n (sym e ∙ f)) (inl (ap (λ u. eq u (var z)) (sym e)))
     go (fails n) (fails m) (holds e) = equates m (inr (ap (λ u. eq y (var u)) (sym e)))
     go (fails n) (fails m) (fails k) = equates-none (λ u l q. ⊎-elim (λ s. m (sym (s .0))) (λ s. k (sym (s .1))) (sides u q))
+
+-- ---- every set of 000's has its leaves
+
+-- By equality, whichever side x stands on.
+at-equates : {x y n : ℕ} {φ ψ : Fmla} {G : List Fmla} {L : List ℕ} → Equates ψ x y → GenAt y φ n G L → GenAt x (conj φ ψ) n (map (λ χ. cp (subst-for χ y x)) G) L
+at-equates {x} {y} {n} {φ} {ψ} {G} {L} (inl e) d = subst⁻¹ (λ u. GenAt x (conj φ u) n (map (λ χ. cp (subst-for χ y x)) G) L) e (at-conj-eq d)
+at-equates {x} {y} {n} {φ} {ψ} {G} {L} (inr e) d = subst⁻¹ (λ u. GenAt x (conj φ u) n (map (λ χ. cp (subst-for χ y x)) G) L) e (at-conj-eq′ d)
+
+-- Some leaves go with the set G.
+abbrev pub HasLeaves : ℕ → Fmla → ℕ → List Fmla → Type 0
+HasLeaves x φ n G = (L : List ℕ) × GenAt x φ n G L
+
+mutual
+  pub gen-gen-at : (φ : Fmla) (n x : ℕ) (G : List Fmla) → Gen x φ G → HasLeaves x φ n G
+  gen-gen-at (truth true) n x G d = absurd (origin d)
+  gen-gen-at (truth false) n x G d = subst⁻¹ (HasLeaves x (truth false) n) (origin d) ([], at-false)
+  gen-gen-at (rel r ts) n x G d = subst⁻¹ (HasLeaves x (rel r ts) n) (origin d .1) (n ∷ [], at-atom ap-rel (origin d .0))
+  gen-gen-at (eq y (var z)) n x G d = absurd (origin d)
+  gen-gen-at (eq y (con p)) n x G d = subst⁻¹ (HasLeaves x (eq y (con p)) n) (origin d .1) (n ∷ [], at-atom ap-eq (here (origin d .0)))
+  gen-gen-at (neg φ) n x G d = gen-gen-at-neg φ n x G d
+  gen-gen-at (conj φ ψ) n x G d =
+      ⊎-elim (λ e. let r = gen-gen-at φ n x G e in (r .0, at-conj-left (r .1)))
+      (⊎-elim (λ e. let r = gen-gen-at ψ (n + size φ) x G e in (r .0, at-conj-right (r .1)))
+      (λ t. let r = gen-gen-at φ n (t .0) (t .2 .0) (t .2 .1) in subst⁻¹ (HasLeaves x (conj φ ψ) n) (t .3) (r .0, at-equates (t .1) (r .1))))
+      (origin d)
+  gen-gen-at (disj φ ψ) n x G d =
+      let o = origin d in
+      let l = gen-gen-at φ n x (o .0 .0) (o .0 .1) in
+      let r = gen-gen-at ψ (n + size φ) x (o .1 .0) (o .1 .1) in
+      subst⁻¹ (HasLeaves x (disj φ ψ) n) (o .2) (l .0 ++ r .0, at-disj (l .1) (r .1))
+  gen-gen-at (exists z φ) n x G d =
+      let o = origin d in
+      let r = gen-gen-at φ n x (o .1 .0) (o .1 .1) in
+      subst⁻¹ (HasLeaves x (exists z φ) n) (o .2) (r .0, at-exists (o .0) (r .1))
+
+  pub gen-gen-at-neg : (φ : Fmla) (n x : ℕ) (G : List Fmla) → Gen x (neg φ) G → HasLeaves x (neg φ) n G
+  gen-gen-at-neg (truth b) n x G d = absurd (origin d)
+  gen-gen-at-neg (rel r ts) n x G d = absurd (origin d)
+  gen-gen-at-neg (eq y t) n x G d = absurd (origin d)
+  gen-gen-at-neg (neg φ) n x G d = let r = gen-gen-at φ n x G (origin d) in (r .0, at-neg-neg (r .1))
+  gen-gen-at-neg (conj φ ψ) n x G d =
+      let o = origin (origin d) in
+      let l = gen-gen-at-neg φ n x (o .0 .0) (o .0 .1) in
+      let r = gen-gen-at-neg ψ (n + size φ) x (o .1 .0) (o .1 .1) in
+      subst⁻¹ (HasLeaves x (neg (conj φ ψ)) n) (o .2) (l .0 ++ r .0, at-neg-conj (l .1) (r .1))
+  gen-gen-at-neg (disj φ ψ) n x G d =
+      ⊎-elim (λ e. let r = gen-gen-at-neg φ n x G e in (r .0, at-neg-disj-left (r .1)))
+      (⊎-elim (λ e. let r = gen-gen-at-neg ψ (n + size φ) x G e in (r .0, at-neg-disj-right (r .1)))
+      (λ t. absurd (equates-var-eq (neg ψ) x (t .0) (t .1))))
+      (origin (origin d))
+  gen-gen-at-neg (exists z φ) n x G d = absurd (origin d)
 
 -- ---- the order's answers are right
 
@@ -130,11 +185,9 @@ through-answered {x} {n} {φ} {ψ} f (equates {y} m q) a p r = go (a y)
   where
     none-else : ¬ Generated y φ → ¬ Generated x (conj φ ψ)
     none-else k g = ⊎-elim (λ d. p (g .0, d)) (⊎-elim (λ d. r (g .0, d)) (λ t. k (subst (λ u. Generated u φ) (sym (equates-one m q (t .1))) (t .2)))) (origin (g .1))
-    by : {G : List Fmla} {L : List ℕ} → Equates ψ x y → GenAt y φ n G L → GenAt x (conj φ ψ) n (map (λ χ. cp (subst-for χ y x)) G) L
-    by {G} {L} (inl e) d = subst⁻¹ (λ u. GenAt x (conj φ u) n (map (λ χ. cp (subst-for χ y x)) G) L) e (at-conj-eq d)
-    by {G} {L} (inr e) d = subst⁻¹ (λ u. GenAt x (conj φ u) n (map (λ χ. cp (subst-for χ y x)) G) L) e (at-conj-eq′ d)
+
     go : {l : Leaves} → Answered y φ n l → Answered x (conj φ ψ) n l
-    go (generated-by G d) = generated-by (map (λ χ. cp (subst-for χ y x)) G) (by q d)
+    go (generated-by G d) = generated-by (map (λ χ. cp (subst-for χ y x)) G) (at-equates q d)
     go (not-generated k) = not-generated (none-else k)
 through-answered {x} {n} {φ} {ψ} f (equates-none m) a p r = not-generated (λ g. ⊎-elim (λ d. p (g .0, d)) (⊎-elim (λ d. r (g .0, d)) (λ t. other (t .0) (t .1) (t .2))) (origin (g .1)))
   where
@@ -178,9 +231,9 @@ mutual
   pub plain-answered : (φ : Fmla) (n x : ℕ) → Answered x φ n (plain φ n x)
   plain-answered (truth true) n x = not-generated (λ g. origin (g .1))
   plain-answered (truth false) n x = generated-by [] at-false
-  plain-answered (rel r ts) n x = leaf-answered ap-rel (λ g. origin (g .1)) (reflects-member x (fv-terms ts))
+  plain-answered (rel r ts) n x = leaf-answered ap-rel (λ g. origin (g .1) .0) (reflects-member x (fv-terms ts))
   plain-answered (eq y (var z)) n x = not-generated (λ g. origin (g .1))
-  plain-answered (eq y (con p)) n x = leaf-answered ap-eq (λ g. here (origin (g .1))) (reflects-map here in-one (reflects-eqb x y))
+  plain-answered (eq y (con p)) n x = leaf-answered ap-eq (λ g. here (origin (g .1) .0)) (reflects-map here in-one (reflects-eqb x y))
   plain-answered (neg φ) n x = denied-answered φ n x
   plain-answered (conj φ ψ) n x = conj-answered (plain-answered φ n x) (plain-answered ψ (n + size φ) x) (through-answered (λ y. plain φ n y) (equated-view ψ x) (λ y. plain-answered φ n y))
   plain-answered (disj φ ψ) n x = disj-answered (plain-answered φ n x) (plain-answered ψ (n + size φ) x)
@@ -212,9 +265,6 @@ generated-decided x φ = go (plain-answered φ 0 x)
 
 -- ---- where a generated variable has its value from
 
-formula-of : Node → Fmla
-formula-of (node n φ) = φ
-
 -- A variable of a record's terms has one of the record's values.
 in-values : (pool : Pool) (σ : Env) (x : ℕ) (ts : List Term) → In x (fv-terms ts) → In (σ x) (values pool σ ts)
 in-values pool σ x ts i = let s = from-union fv-term ts i in subst (λ u. In u (values pool σ ts)) (at-term (s .0) (s .2)) (in-map (value pool σ) (s .1))
@@ -230,7 +280,6 @@ module _ (pool : Pool) (D : Database) where
 
   -- A not is no leaf.
   among-neg : (φ : Fmla) (n : ℕ) {L : List ℕ} {v : ℕ} → SourceAmong pool D (neg φ) n L v → SourceAmong pool D φ n L v
-  unfolding formula-of
   among-neg φ n {v = v} s = (s .0, s .1, s .2, ⊎-elim (λ i. i) (λ i. absurd (subst (λ χ. Source pool D χ v) (ap formula-of (in-one i)) (s .4))) (in-append (nodes φ n) (s .3)), s .4)
 
   left-node : (φ ψ : Fmla) (n : ℕ) (rest : List Node) → nodes φ n ⊆ (nodes φ n ++ nodes ψ (n + size φ) ++ rest)
@@ -283,7 +332,6 @@ module _ (pool : Pool) (D : Database) where
 
   -- The root is a node that knows as much.
   root : (φ : Fmla) (n p : ℕ) (χ : Fmla) → In (node p χ) (node n φ ∷ []) → known pool D χ ⊆ known pool D φ
-  unfolding formula-of
   root φ n p χ i v j = subst (λ u. In v (known pool D u)) (ap formula-of (in-one i)) j
 
   inner : (φ ψ χ : Fmla) (k n p : ℕ) (ω : Fmla) → known pool D χ ≡ known pool D (conj φ ψ) → (In (node p ω) (nodes φ n) → known pool D ω ⊆ known pool D φ) → (In (node p ω) (nodes ψ (n + size φ)) → known pool D ω ⊆ known pool D ψ) → In (node p ω) (nodes φ n ++ nodes ψ (n + size φ) ++ (node k χ ∷ [])) → known pool D ω ⊆ known pool D χ

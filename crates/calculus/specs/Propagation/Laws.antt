@@ -9,7 +9,7 @@ use Rattle.calculus.specs.Sets.{In, here, there, _⊆_, member, remove, 
 use Rattle.calculus.specs.Sets.Laws.{in-nil, in-left, in-right, in-append-map, in-remove, from-remove, reflects-member}
 use Rattle.calculus.specs.Iff.{iff-either, iff-some}
 use Rattle.calculus.specs.Reflects.{Reflects, holds, fails, reflects-true, reflects-false, reflects-eqb}
-use Rattle.calculus.specs.Formula.{Term, var, con, Fmla, truth, rel, eq, neg, conj, disj, exists, fv, fv-term, relations, places, places-term}
+use Rattle.calculus.specs.Formula.{Term, var, con, Fmla, truth, rel, eq, neg, conj, disj, exists, fv, gather, relations, places, places-term}
 use Rattle.calculus.specs.Satisfaction.{Pool, Database, Env, bind, Sat, known}
 use Rattle.calculus.specs.Satisfaction.Laws.{sat-agree, bind-other, known-mono}
 use Rattle.calculus.specs.Propagation.{exists-free, is-truth, truth-of, cp-eq, cp-neg, cp-conj, cp-disj, cp, Nocp, Propagated}
@@ -81,9 +81,11 @@ conj-view φ ψ = go (truth-view φ) (truth-view ψ)
     left : (b : Bool) (ψ : Fmla) → JoinView true (truth b) ψ (cp-conj (truth b) ψ)
     left true ψ = left-unit
     left false ψ = left-zero
+
     right : {φ : Fmla} → is-truth φ ≡ false → (b : Bool) → JoinView true φ (truth b) (cond b φ (truth false))
     right e true = right-unit e
     right e false = right-zero e
+
     go : {φ ψ : Fmla} → TruthView φ → TruthView ψ → JoinView true φ ψ (cp-conj φ ψ)
     go {ψ = ψ} (a-truth b) v = left b ψ
     go {φ} (no-truth e) (a-truth b) = subst⁻¹ (JoinView true φ (truth b)) (cond-is (cond (truth-of φ) (truth b) (truth false)) (cond b φ (truth false)) e) (right e b)
@@ -95,9 +97,11 @@ disj-view φ ψ = go (truth-view φ) (truth-view ψ)
     left : (b : Bool) (ψ : Fmla) → JoinView false (truth b) ψ (cp-disj (truth b) ψ)
     left true ψ = left-zero
     left false ψ = left-unit
+
     right : {φ : Fmla} → is-truth φ ≡ false → (b : Bool) → JoinView false φ (truth b) (cond b (truth true) φ)
     right e true = right-zero e
     right e false = right-unit e
+
     go : {φ ψ : Fmla} → TruthView φ → TruthView ψ → JoinView false φ ψ (cp-disj φ ψ)
     go {ψ = ψ} (a-truth b) v = left b ψ
     go {φ} (no-truth e) (a-truth b) = subst⁻¹ (JoinView false φ (truth b)) (cond-is (cond (truth-of φ) (truth true) (truth b)) (cond b (truth true) φ) e) (right e b)
@@ -211,38 +215,26 @@ eq-gathered f n y (var z) x i = go (reflects-eqb y z) i
 
 pub fv-gathered : Gathered fv
 fv-gathered =
-    record
-    { at-truth = λ b x i. in-nil i
-    ; at-eq = eq-gathered fv (λ x i. in-nil i)
-    ; at-neg = λ φ. refl
-    ; at-conj = λ φ ψ. refl
-    ; at-disj = λ φ ψ. refl
-    ; at-exists = λ z φ ψ h x i. in-remove (h x (from-remove (fv φ) i .0)) (from-remove (fv φ) i .1)
-    ; at-dropped = λ z φ n x i. in-remove i (λ e. n (subst (λ u. In u (fv φ)) e i))
+    record {
+      at-truth = λ b x i. in-nil i;
+      at-eq = eq-gathered fv (λ x i. in-nil i);
+      at-neg = λ φ. refl;
+      at-conj = λ φ ψ. refl;
+      at-disj = λ φ ψ. refl;
+      at-exists = λ z φ ψ h x i. in-remove (h x (from-remove (fv φ) i .0)) (from-remove (fv φ) i .1);
+      at-dropped = λ z φ n x i. in-remove i (λ e. n (subst (λ u. In u (fv φ)) e i));
     }
 
-pub relations-gathered : Gathered relations
-relations-gathered =
-    record
-    { at-truth = λ b x i. in-nil i
-    ; at-eq = eq-gathered relations (λ x i. in-nil i)
-    ; at-neg = λ φ. refl
-    ; at-conj = λ φ ψ. refl
-    ; at-disj = λ φ ψ. refl
-    ; at-exists = λ z φ ψ h. h
-    ; at-dropped = λ z φ n x i. i
-    }
-
-pub places-gathered : Gathered places
-places-gathered =
-    record
-    { at-truth = λ b x i. in-nil i
-    ; at-eq = eq-gathered places (λ x i. in-nil i)
-    ; at-neg = λ φ. refl
-    ; at-conj = λ φ ψ. refl
-    ; at-disj = λ φ ψ. refl
-    ; at-exists = λ z φ ψ h. h
-    ; at-dropped = λ z φ n x i. i
+pub gather-gathered : (f : ℕ → List Term → List ℕ) (g : ℕ → Term → List ℕ) → Gathered (gather f g)
+gather-gathered f g =
+    record {
+      at-truth = λ b x i. in-nil i;
+      at-eq = eq-gathered (gather f g) (λ x i. in-nil i);
+      at-neg = λ φ. refl;
+      at-conj = λ φ ψ. refl;
+      at-disj = λ φ ψ. refl;
+      at-exists = λ z φ ψ h. h;
+      at-dropped = λ z φ n x i. i;
     }
 
 -- 000: fv_cp.
@@ -250,10 +242,10 @@ pub fv-cp : (φ : Fmla) → fv (cp φ) ⊆ fv φ
 fv-cp = gathered-cp fv fv-gathered
 
 pub relations-cp : (φ : Fmla) → relations (cp φ) ⊆ relations φ
-relations-cp = gathered-cp relations relations-gathered
+relations-cp = gathered-cp relations (gather-gathered (λ r ts. r ∷ []) (λ x t. []))
 
 pub places-cp : (φ : Fmla) → places (cp φ) ⊆ places φ
-places-cp = gathered-cp places places-gathered
+places-cp = gathered-cp places (gather-gathered (λ r ts. union-of places-term ts) (λ x t. places-term t))
 
 pub known-cp : (pool : Pool) (D : Database) (φ : Fmla) → known pool D (cp φ) ⊆ known pool D φ
 known-cp pool D φ = known-mono pool D (cp φ) φ (relations-cp φ) (places-cp φ)

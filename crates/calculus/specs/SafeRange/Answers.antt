@@ -8,7 +8,7 @@ use mathlib.Core.List.{List, [], _∷_, _++_, map}
 use lib.Dec.{T, ltb}
 use Rattle.calculus.specs.Sets.{In, here, there, _⊆_, select, union-of}
 use Rattle.calculus.specs.Sets.Laws.{in-nil, in-one, in-select, from-select, in-union, from-union, in-cond}
-use Rattle.calculus.specs.Reflects.{Reflects, holds, fails, reflects, reflected, reflects-map, reflects-not, reflects-and, reflects-T}
+use Rattle.calculus.specs.Reflects.{Reflects, holds, fails, reflects, reflected, reflects-false, reflects-map, reflects-and}
 use Rattle.calculus.specs.Formula.{Fmla, truth, rel, eq, neg, conj, disj, exists, fv, Node, node, nodes}
 use Rattle.calculus.specs.Satisfaction.{Pool, Database, Sat, known}
 use Rattle.calculus.specs.Propagation.{cp}
@@ -19,9 +19,10 @@ use Rattle.calculus.specs.Generators.Laws.{reflects-none, generated-deci
 use Rattle.calculus.specs.SafeRange.{HasNode, Rrb, SafeRange}
 use Rattle.calculus.specs.Order.{Ascending, sort}
 use Rattle.calculus.specs.Order.Laws.{ltb-order, sort-members, sort-ascending}
-use Rattle.calculus.specs.Rows.{Row, row-env, Answer, Endless}
+use Rattle.calculus.specs.Rows.{Row, row-env, Answer, Endless, endless, listed}
 use Rattle.calculus.specs.Rows.Laws.{row-env-column}
-use Rattle.calculus.specs.Evaluation.Laws.{endless-iff}
+use Rattle.calculus.specs.Evaluation.{rows-over, answers}
+use Rattle.calculus.specs.Evaluation.Laws.{endless-iff, endless-reflects}
 
 -- ---- columns
 
@@ -42,10 +43,10 @@ reflects-empty (x ∷ xs) = fails (λ n. n x (here refl))
 
 -- What the report of the free variables holds.
 pub ungenerated-means : (φ : Fmla) (x : ℕ) → In x (verdict φ .ungenerated) ↔ (In x (fv φ) × ¬ Generated x (cp φ))
-ungenerated-means φ x =
-    ( λ i. let s = from-select test (columns φ) i in (columns-members φ x .0 (s .0), reflected (reflects-none (cp φ) 0 x) (s .1))
-    , λ h. in-select test (columns-members φ x .1 (h .0)) (reflects (reflects-none (cp φ) 0 x) (h .1))
-    )
+ungenerated-means φ x = (
+  λ i. let s = from-select test (columns φ) i in (columns-members φ x .0 (s .0), reflected (reflects-none (cp φ) 0 x) (s .1)),
+  λ h. in-select test (columns-members φ x .1 (h .0)) (reflects (reflects-none (cp φ) 0 x) (h .1)),
+)
   where
     test : ℕ → Bool
     test u = is-none (plain (cp φ) 0 u)
@@ -84,16 +85,18 @@ safe-reflects φ = reflects-map sound complete (reflects-and (reflects-empty (ve
   where
     Reports : Type 0
     Reports = ((x : ℕ) → ¬ In x (verdict φ .ungenerated)) × ((k : ℕ) → ¬ In k (verdict φ .unranged))
+
     sound : Reports → SafeRange φ
-    sound h =
-        ( λ x i. ⊎-elim (λ g. g) (λ n. absurd (h .0 x (ungenerated-means φ x .1 (i, n)))) (generated-decided x (cp φ))
-        , λ y ψ u. ⊎-elim (λ g. g) (λ n. absurd (h .1 (u .0) (unranged-means φ (u .0) .1 (exists y ψ, u .1, (y, ψ, refl, n))))) (generated-decided y ψ)
-        )
+    sound h = (
+      λ x i. ⊎-elim (λ g. g) (λ n. absurd (h .0 x (ungenerated-means φ x .1 (i, n)))) (generated-decided x (cp φ)),
+      λ y ψ u. ⊎-elim (λ g. g) (λ n. absurd (h .1 (u .0) (unranged-means φ (u .0) .1 (exists y ψ, u .1, (y, ψ, refl, n))))) (generated-decided y ψ),
+    )
+
     complete : SafeRange φ → Reports
-    complete s =
-        ( λ x i. let h = ungenerated-means φ x .0 i in h .1 (s .0 x (h .0))
-        , λ k i. let h = unranged-means φ k .0 i in h .2 .3 (s .1 (h .2 .0) (h .2 .1) (k, subst (λ χ. In (node k χ) (nodes (cp φ) 0)) (h .2 .2) (h .1)))
-        )
+    complete s = (
+      λ x i. let h = ungenerated-means φ x .0 i in h .1 (s .0 x (h .0)),
+      λ k i. let h = unranged-means φ k .0 i in h .2 .3 (s .1 (h .2 .0) (h .2 .1) (k, subst (λ χ. In (node k χ) (nodes (cp φ) 0)) (h .2 .2) (h .1))),
+    )
 
 -- ---- rows of a safe-range query
 
@@ -104,13 +107,20 @@ module _ (pool : Pool) (D : Database) (φ : Fmla) (s : SafeRange φ) where
     where
       col : (c : ℕ) × In c (columns φ) × (row-env (columns φ) w c ≡ v)
       col = row-env-column (columns φ) w (columns-ascending φ) (a .0) v i
+
       c : ℕ
       c = col .0
+
       generated : Generated c (cp φ)
       generated = s .0 c (columns-members φ c .0 (col .1))
+
       holds-form : Sat pool D (cp φ) (row-env (columns φ) w)
       holds-form = cp-sat pool D φ (row-env (columns φ) w) .1 (a .1)
 
   -- It is never endless.
   pub safe-not-endless : ¬ Endless pool D φ (columns φ)
   safe-not-endless e = let h = endless-iff pool D (known pool D φ) φ (columns φ) (λ v i. i) (fv-columns φ) .0 e in h .2 .2 (safe-values (h .0) (h .1) (h .2 .0) (h .2 .1))
+
+  -- So its rows are listed: all that satisfy it over all whole numbers and no other, by `rows-members`.
+  pub safe-listed : answers pool D φ (columns φ) ≡ listed (rows-over pool D (known pool D φ) φ (columns φ))
+  safe-listed = ap (λ b. cond b endless (listed (rows-over pool D (known pool D φ) φ (columns φ)))) (reflects-false (endless-reflects pool D (known pool D φ) φ (columns φ) (λ v i. i) (fv-columns φ)) safe-not-endless)

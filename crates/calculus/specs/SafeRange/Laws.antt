@@ -1,20 +1,21 @@
 -- Laws of safe-range: propagation keeps generation, the range of the bound variables and safe-range itself (000: gen_Gen_cp, rrb_cp, sr_cp).
 -- Each clause goes by the view of a clause of cp; rrb, a claim about all nodes, is first taken apart by the shape of the formula.
 use Prim.Native.Nat.{ℕ, _+_}
-use mathlib.Core.Path.{_≡_, refl, sym, ap, subst⁻¹}
+use mathlib.Core.Path.{_≡_, refl, sym, subst⁻¹}
 use mathlib.Core.Logic.{_↔_, _⊎_, inl, inr, ⊎-elim, _≢_}
 use mathlib.Core.Bool.{Bool, true, false, not, cond}
 use mathlib.Core.List.{List, [], _∷_, _++_, map}
 use lib.Dec.{eqb}
-use Rattle.calculus.specs.Sets.{In, here}
-use Rattle.calculus.specs.Sets.Laws.{in-one, in-left, in-right, in-append}
+use Rattle.calculus.specs.Sets.{here}
 use Rattle.calculus.specs.Reflects.{Reflects, holds, fails, reflects-eqb}
 use Rattle.calculus.specs.Formula.{Term, var, con, Fmla, truth, rel, eq, neg, conj, disj, exists, size, Node, node, nodes}
+use Rattle.calculus.specs.Formula.Laws.{Has, has-left, has-right, from-one, from-append, joined, node-shift}
 use Rattle.calculus.specs.Propagation.{exists-free, is-truth, cp-eq, cp-neg, cp-conj, cp-disj, cp}
 use Rattle.calculus.specs.Propagation.Laws.{TruthView, a-truth, no-truth, truth-view, NegView, neg-truth, neg-other, join, JoinView, left-unit, left-zero, right-unit, right-zero, neither, ExistsView, kept, dropped, cp-neg-other, cp-conj-neither, neg-view, conj-view, disj-view, exists-view, fv-cp}
 use Rattle.calculus.specs.Substitution.{subst-for}
 use Rattle.calculus.specs.Generation.{ap-rel, ap-eq, Gen, gen-false, gen-atom, gen-neg-neg, gen-neg-disj, gen-neg-conj, gen-disj, gen-conj-left, gen-conj-right, gen-conj-eq, gen-conj-eq′, gen-exists, Generated}
 use Rattle.calculus.specs.Generation.Laws.{origin}
+use Rattle.calculus.specs.Generators.Laws.{generated-decided}
 use Rattle.calculus.specs.SafeRange.{HasNode, Nongen, Rrb, Sr, SafeRange}
 
 -- ---- a variable generated in a query is generated in its form (000: gen_Gen_cp)
@@ -126,58 +127,6 @@ generated-cp (gen-conj-eq {x} {y} {φ} d) = conj-eq-generated x y (cp φ) (gener
 generated-cp (gen-conj-eq′ {x} {y} {φ} d) = conj-eq′-generated x y (cp φ) (generated-cp d)
 generated-cp (gen-exists {y = y} {φ} n d) = exists-generated (exists-view y (cp φ)) n (generated-cp d)
 
--- ---- the nodes of a formula, by its shape
-
--- The subformula at a node.
-abbrev form : Node → Fmla
-form (node n φ) = φ
-
--- Some node of the list is χ.
-abbrev Has : Fmla → List Node → Type 0
-Has χ ns = (n : ℕ) × In (node n χ) ns
-
-has-left : {χ : Fmla} {ns : List Node} (ms : List Node) → Has χ ns → Has χ (ns ++ ms)
-has-left ms h = (h .0, in-left ms (h .1))
-
-has-right : {χ : Fmla} (ns : List Node) {ms : List Node} → Has χ ms → Has χ (ns ++ ms)
-has-right ns h = (h .0, in-right ns (h .1))
-
-from-one : {χ φ : Fmla} {n : ℕ} → Has χ (node n φ ∷ []) → χ ≡ φ
-from-one h = ap form (in-one (h .1))
-
-from-append : {χ : Fmla} (ns : List Node) {ms : List Node} → Has χ (ns ++ ms) → Has χ ns ⊎ Has χ ms
-from-append ns h = ⊎-elim (λ i. inl (h .0, i)) (λ i. inr (h .0, i)) (in-append ns (h .1))
-
-has-one-map : {χ φ : Fmla} {n : ℕ} (m : ℕ) → Has χ (node n φ ∷ []) → Has χ (node m φ ∷ [])
-has-one-map m h = (m, here (ap (node m) (from-one h)))
-
-has-append-map : {χ : Fmla} (ns us : List Node) {ms vs : List Node} → (Has χ ns → Has χ us) → (Has χ ms → Has χ vs) → Has χ (ns ++ ms) → Has χ (us ++ vs)
-has-append-map ns us {vs = vs} f g h = ⊎-elim (λ a. has-left vs (f a)) (λ b. has-right us (g b)) (from-append ns h)
-
--- The nodes of a formula ω with the children φ and ψ.
-abbrev joined : Fmla → Fmla → Fmla → ℕ → List Node
-joined ω φ ψ n = nodes φ n ++ nodes ψ (n + size φ) ++ (node (n + (size φ + size ψ)) ω ∷ [])
-
--- What node-shift says of φ, for the clauses with two children.
-abbrev Shifts : Fmla → Type 0
-Shifts φ = (n m : ℕ) (χ : Fmla) → Has χ (nodes φ n) → Has χ (nodes φ m)
-
-joined-shift : (ω φ ψ : Fmla) → Shifts φ → Shifts ψ → (n m : ℕ) (χ : Fmla) → Has χ (joined ω φ ψ n) → Has χ (joined ω φ ψ m)
-joined-shift ω φ ψ f g n m χ = has-append-map (nodes φ n ++ nodes ψ (n + size φ)) (nodes φ m ++ nodes ψ (m + size φ)) below (has-one-map (m + (size φ + size ψ)))
-  where
-    below : Has χ (nodes φ n ++ nodes ψ (n + size φ)) → Has χ (nodes φ m ++ nodes ψ (m + size φ))
-    below = has-append-map (nodes φ n) (nodes φ m) (f n m χ) (g (n + size φ) (m + size φ) χ)
-
--- The subformulas don't depend on where the numbering starts.
-pub node-shift : (φ : Fmla) (n m : ℕ) (χ : Fmla) → ((k : ℕ) × In (node k χ) (nodes φ n)) → (k : ℕ) × In (node k χ) (nodes φ m)
-node-shift (truth b) n m χ = has-one-map m
-node-shift (rel r ts) n m χ = has-one-map m
-node-shift (eq x t) n m χ = has-one-map m
-node-shift (neg φ) n m χ = has-append-map (nodes φ n) (nodes φ m) (node-shift φ n m χ) (has-one-map (m + size φ))
-node-shift (conj φ ψ) n m χ = joined-shift (conj φ ψ) φ ψ (node-shift φ) (node-shift ψ) n m χ
-node-shift (disj φ ψ) n m χ = joined-shift (disj φ ψ) φ ψ (node-shift φ) (node-shift ψ) n m χ
-node-shift (exists z φ) n m χ = has-append-map (nodes φ n) (nodes φ m) (node-shift φ n m χ) (has-one-map (m + size φ))
-
 -- ---- rrb, by the shape of the formula (000: rrb_simps)
 
 -- rrb of a list of nodes, so that Rrb φ is Bounded (nodes φ 0).
@@ -286,8 +235,8 @@ pub sr-cp : (φ : Fmla) → Sr φ → Sr (cp φ)
 sr-cp φ s = (λ x n. s .0 x (nongen-cp φ x n), rrb-cp φ (s .1))
 
 -- A query that 000 judges safe-range as it stands is so in document 01's sense.
-pub sr-safe-range : (decide : (x : ℕ) (φ : Fmla) → Generated x φ ⊎ (¬ Generated x φ)) → (φ : Fmla) → Sr φ → SafeRange φ
-sr-safe-range decide φ s = (λ x i. ⊎-elim (λ g. generated-cp (g .1)) (λ n. absurd (s .0 x (i, n))) (decide x φ), rrb-cp φ (s .1))
+pub sr-safe-range : (φ : Fmla) → Sr φ → SafeRange φ
+sr-safe-range φ s = (λ x i. ⊎-elim (λ g. generated-cp (g .1)) (λ n. absurd (s .0 x (i, n))) (generated-decided x φ), rrb-cp φ (s .1))
 
 -- A query that is safe-range in document 01's sense has a form that 000 judges so.
 pub safe-range-sr : (φ : Fmla) → SafeRange φ → Sr (cp φ)

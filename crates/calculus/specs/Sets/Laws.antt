@@ -111,9 +111,11 @@ from-select {A} p {x} (y ∷ xs) i = go (p y) (λ t. t) (λ j. from-select p xs 
   where
     Found : List A → Type 0
     Found l = In x l × T (p x)
+
     top : T (p y) → (In x (select p xs) → Found xs) → In x (y ∷ select p xs) → Found (y ∷ xs)
     top t r (here e) = (here e, subst (λ u. T (p u)) (sym e) t)
     top t r (there j) = (there (r j .0), r j .1)
+
     go : (b : Bool) → (T b → T (p y)) → (In x (select p xs) → Found xs) → In x (cond b (y ∷ select p xs) (select p xs)) → Found (y ∷ xs)
     go true k r j = top (k tt) r j
     go false k r j = (there (r j .0), r j .1)
@@ -137,6 +139,7 @@ reflects-all {A} {P} p (x ∷ xs) r = reflects-map join (λ h. (h x (here refl),
     join-at : P x × ((y : A) → In y xs → P y) → (y : A) → In y (x ∷ xs) → P y
     join-at h y (here e) = subst P (sym e) (h .0)
     join-at h y (there i) = h .1 y i
+
     join : P x × ((y : A) → In y xs → P y) → (y : A) → In y (x ∷ xs) → P y
     join h = join-at h
 
