@@ -3,7 +3,7 @@ use Prim.Native.Nat.{ℕ}
 use mathlib.Core.Path.{_≡_}
 use mathlib.Core.Bool.{Bool, true, false, _&&_, Bool·beq}
 use mathlib.Core.List.{List, [], _∷_}
-use Rattle.calculus.specs.Sets.{same-by, same-list, all-of}
+use Rattle.calculus.specs.Sets.{same-by, same-list}
 use Rattle.calculus.specs.Reflects.{Reflects}
 use Rattle.calculus.specs.Formula.{Term, var, con, Fmla, truth, rel, eq, neg, conj, disj, exists}
 use Rattle.calculus.specs.Satisfaction.{fact, Database, Pool}

@@ -1,8 +1,8 @@
 -- Formulas of the relational calculus: 000, 2.1 and 2.2. Definitions only; the laws are in Formula/Laws.antt.
 -- A constant is a place in a pool of values: a query keeps its pool, and two places may hold one value.
-use Prim.Native.Nat.{ℕ, zero, suc, _+_}
-use mathlib.Core.Bool.{Bool, true, false}
-use mathlib.Core.List.{List, [], _∷_, _++_, map}
+use Prim.Native.Nat.{ℕ, _+_}
+use mathlib.Core.Bool.{Bool}
+use mathlib.Core.List.{List, [], _∷_, _++_}
 use Rattle.calculus.specs.Sets.{union-of, remove}
 pub mod Laws
 

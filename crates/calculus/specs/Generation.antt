@@ -1,9 +1,8 @@
 -- Generated variables: 000, 2.6. Definitions only; the laws are in Generation/Laws.antt.
 -- A finite set of formulas is a list: union is `_++_`, the image under a function is `map`.
 use Prim.Native.Nat.{ℕ}
-use mathlib.Core.Path.{_≡_}
 use mathlib.Core.Logic.{_≢_}
-use mathlib.Core.Bool.{true, false}
+use mathlib.Core.Bool.{false}
 use mathlib.Core.List.{List, [], _∷_, _++_, map}
 use Rattle.calculus.specs.Sets.{In}
 use Rattle.calculus.specs.Formula.{Term, var, con, Fmla, truth, rel, eq, neg, conj, disj, exists, fv}

@@ -9,7 +9,7 @@ use mathlib.Core.Option.{Option, none, some}
 use lib.Dec.{eqb, ltb}
 use Rattle.calculus.specs.Sets.{In, member, select, union-of}
 use Rattle.calculus.specs.Order.{sort}
-use Rattle.calculus.specs.Formula.{Term, var, con, Fmla, truth, rel, eq, neg, conj, disj, exists, fv, fv-terms, size, Node, node, nodes}
+use Rattle.calculus.specs.Formula.{var, con, Fmla, truth, rel, eq, neg, conj, disj, exists, fv, fv-terms, size, Node, node, nodes}
 use Rattle.calculus.specs.Satisfaction.{Pool, Database, constant, InRecord}
 use Rattle.calculus.specs.Propagation.{exists-free, cp}
 use Rattle.calculus.specs.Substitution.{subst-for}

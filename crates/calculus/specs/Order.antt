@@ -1,6 +1,6 @@
 -- Strictly ascending lists, over any test for "is below". Definitions only; the laws are in Order/Laws.antt.
 use mathlib.Core.Path.{_≡_}
-use mathlib.Core.Bool.{Bool, true, false, cond}
+use mathlib.Core.Bool.{Bool, cond}
 use mathlib.Core.List.{List, [], _∷_}
 use lib.Dec.{T}
 use Rattle.calculus.specs.Sets.{In}

@@ -1,11 +1,11 @@
 -- A test beside what it tests: one lemma for a test says both that it is sound and that it is complete.
-use Prim.Native.Nat.{ℕ, suc, _<_, _≤_}
+use Prim.Native.Nat.{ℕ, suc, _<_}
 use mathlib.Core.Path.{_≡_, refl, subst}
-use mathlib.Core.Logic.{_↔_, _⊎_, inl, inr}
+use mathlib.Core.Logic.{_⊎_, inl, inr}
 use mathlib.Core.Bool.{Bool, true, false, not, _&&_, _||_}
 use mathlib.Core.List.{List, [], _∷_}
-use lib.Dec.{T, eqb, eqb→eq, eqb-refl, leb, leb→le, le→leb, ltb}
-use Rattle.calculus.specs.Sets.{In, here, there, any-of, all-of}
+use lib.Dec.{T, eqb, eqb→eq, eqb-refl, leb→le, le→leb, ltb}
+use Rattle.calculus.specs.Sets.{In, here, there, any-of}
 
 -- `Reflects A b`: the test b answers whether A holds.
 pub data Reflects (A : Type 0) : Bool → Type 0 where

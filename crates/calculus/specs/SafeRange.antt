@@ -1,6 +1,5 @@
 -- Safe-range queries: 000, 2.9, and document 01's widening. Definitions only; the laws are in SafeRange/Laws.antt.
 use Prim.Native.Nat.{ℕ}
-use mathlib.Core.List.{List}
 use Rattle.calculus.specs.Sets.{In}
 use Rattle.calculus.specs.Formula.{Fmla, exists, fv, node, nodes}
 use Rattle.calculus.specs.Propagation.{cp}

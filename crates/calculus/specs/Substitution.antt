@@ -1,7 +1,7 @@
 -- Substitution of a variable for a variable: 000, 2.5. Definitions only; the laws are in Substitution/Laws.antt.
 use Prim.Native.Nat.{ℕ, zero, suc, max}
-use mathlib.Core.Bool.{Bool, true, false, cond}
-use mathlib.Core.List.{List, [], _∷_, map}
+use mathlib.Core.Bool.{cond}
+use mathlib.Core.List.{_∷_, map}
 use lib.Dec.{eqb}
 use Rattle.calculus.specs.Sets.{fresh}
 use Rattle.calculus.specs.Formula.{Term, var, con, Fmla, truth, rel, eq, neg, conj, disj, exists, fv}

@@ -1,9 +1,9 @@
 -- The worked cases are right: one computed test over the table, and one lemma that turns it into what each case says.
 use mathlib.Core.Path.{_≡_, refl, ap, subst, subst⁻¹}
-use mathlib.Core.Bool.{Bool, true, false, _&&_, Bool·beq}
-use mathlib.Core.List.{List, [], _∷_}
+use mathlib.Core.Bool.{Bool, true, false, Bool·beq}
+use mathlib.Core.List.{List, []}
 use lib.Dec.{T}
-use Rattle.calculus.specs.Sets.{In, all-of, same-by, same-list}
+use Rattle.calculus.specs.Sets.{In, same-list}
 use Rattle.calculus.specs.Sets.Laws.{reflects-all, reflects-same-by, reflects-same-list}
 use Rattle.calculus.specs.Reflects.{Reflects, holds, fails, reflected, reflects-T, reflects-map, reflects-and}
 use Rattle.calculus.specs.Generators.{columns, Verdict, verdict, safe}

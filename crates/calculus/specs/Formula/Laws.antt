@@ -1,17 +1,22 @@
 -- Laws of the nodes of a formula: they are numbered one after the other, and which formulas they hold doesn't depend on where the numbers start.
 use Prim.Native.Nat.{ℕ, zero, suc, _+_}
-use native.Mathlib.Nat.{add-zero, zero-add, suc-add, add-suc, add-assoc}
-use native.Mathlib.Numerals.{add-one}
-use mathlib.Core.Path.{_≡_, refl, sym, ap, subst, _∙_}
+use native.Mathlib.Nat.{add-zero, zero-add, suc-add, add-suc}
+use mathlib.Core.Path.{_≡_, refl, sym, ap, _∙_}
 use mathlib.Core.Logic.{_⊎_, inl, inr, ⊎-elim}
 use mathlib.Core.List.{List, [], _∷_, _++_, map, map-append}
-use Rattle.calculus.specs.Sets.{In, here}
+use Rattle.calculus.specs.Sets.{In, here, _⊆_}
 use Rattle.calculus.specs.Sets.Laws.{in-one, in-left, in-right, in-append}
 use Rattle.calculus.specs.Formula.{Fmla, truth, rel, eq, neg, conj, disj, exists, size, Node, node, nodes}
 
 -- The nodes of a formula ω with the children φ and ψ.
 abbrev pub joined : Fmla → Fmla → Fmla → ℕ → List Node
 joined ω φ ψ n = nodes φ n ++ nodes ψ (n + size φ) ++ (node (n + (size φ + size ψ)) ω ∷ [])
+
+pub left-node : (ω φ ψ : Fmla) (n : ℕ) → nodes φ n ⊆ joined ω φ ψ n
+left-node ω φ ψ n u i = in-left (node (n + (size φ + size ψ)) ω ∷ []) (in-left (nodes ψ (n + size φ)) i)
+
+pub right-node : (ω φ ψ : Fmla) (n : ℕ) → nodes ψ (n + size φ) ⊆ joined ω φ ψ n
+right-node ω φ ψ n u i = in-left (node (n + (size φ + size ψ)) ω ∷ []) (in-right (nodes φ n) i)
 
 -- ---- the numbers
 

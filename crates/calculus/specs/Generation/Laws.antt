@@ -1,20 +1,20 @@
 -- Laws of 000's gen: what a derivation can have come from, and that a satisfied formula satisfies one of its generators (000: gen_sat).
 use Prim.Native.Nat.{ℕ}
-use mathlib.Core.Path.{_≡_, refl, sym, ap, subst, _∙_}
-use mathlib.Core.Logic.{_↔_, _⊎_, inl, inr, ⊎-elim, _≢_}
-use mathlib.Core.Bool.{Bool, true, false}
+use mathlib.Core.Path.{_≡_, refl, sym, ap, _∙_}
+use mathlib.Core.Logic.{_⊎_, inl, inr, ⊎-elim, _≢_}
+use mathlib.Core.Bool.{true, false}
 use mathlib.Core.List.{List, [], _∷_, _++_, map}
-use Rattle.calculus.specs.Sets.{In, here, there}
-use Rattle.calculus.specs.Sets.Laws.{in-nil, in-one, in-left, in-right, in-map}
+use Rattle.calculus.specs.Sets.{In, here}
+use Rattle.calculus.specs.Sets.Laws.{in-one, in-left, in-right, in-map}
 use Rattle.calculus.specs.Reflects.{Any}
-use Rattle.calculus.specs.Formula.{Term, var, con, Fmla, truth, rel, eq, neg, conj, disj, exists, fv, fv-terms}
+use Rattle.calculus.specs.Formula.{var, con, Fmla, truth, rel, eq, neg, conj, disj, exists, fv, fv-terms}
 use Rattle.calculus.specs.Satisfaction.{Pool, Database, Env, bind, Sat}
 use Rattle.calculus.specs.Satisfaction.Laws.{bind-cases, sat-cong}
 use Rattle.calculus.specs.Propagation.{exists-free, cp}
 use Rattle.calculus.specs.Propagation.Laws.{cp-sat, exists-sat}
 use Rattle.calculus.specs.Substitution.{subst-for}
 use Rattle.calculus.specs.Substitution.Laws.{subst-sat}
-use Rattle.calculus.specs.Generation.{Ap, ap-rel, ap-eq, Gen, gen-false, gen-atom, gen-neg-neg, gen-neg-disj, gen-neg-conj, gen-disj, gen-conj-left, gen-conj-right, gen-conj-eq, gen-conj-eq′, gen-exists, Generated}
+use Rattle.calculus.specs.Generation.{ap-rel, ap-eq, Gen, gen-false, gen-atom, gen-neg-neg, gen-neg-disj, gen-neg-conj, gen-disj, gen-conj-left, gen-conj-right, gen-conj-eq, gen-conj-eq′, gen-exists, Generated}
 use Rattle.calculus.specs.Evaluation.Laws.{sat-decided}
 
 -- ---- inversion

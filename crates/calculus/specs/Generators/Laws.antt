@@ -2,23 +2,22 @@
 -- leaves of such a set. And a generated variable of a satisfied formula has its value from one of the leaves.
 use Prim.Native.Nat.{ℕ, _+_}
 use mathlib.Core.Path.{_≡_, refl, sym, ap, subst, subst⁻¹, _∙_}
-use mathlib.Core.Logic.{_↔_, _⊎_, inl, inr, ⊎-elim, _≢_}
-use mathlib.Core.Bool.{Bool, true, false, not, cond}
+use mathlib.Core.Logic.{_⊎_, inl, inr, ⊎-elim, _≢_}
+use mathlib.Core.Bool.{Bool, true, false, cond}
 use mathlib.Core.List.{List, [], _∷_, _++_, map}
 use mathlib.Core.Option.{Option, none, some}
-use lib.Dec.{T, eqb}
-use Rattle.calculus.specs.Sets.{In, here, there, _⊆_}
+use Rattle.calculus.specs.Sets.{In, here, _⊆_}
 use Rattle.calculus.specs.Sets.Laws.{in-nil, in-one, in-left, in-right, in-append, in-map, from-union, reflects-member}
 use Rattle.calculus.specs.Reflects.{Reflects, holds, fails, reflects-eqb, reflects-map, decided}
-use Rattle.calculus.specs.Formula.{Term, var, con, Fmla, truth, rel, eq, neg, conj, disj, exists, fv, fv-term, fv-terms, size, Node, node, nodes, relations, places}
-use Rattle.calculus.specs.Formula.Laws.{formula-of}
-use Rattle.calculus.specs.Satisfaction.{Pool, Database, Env, bind, fact, constant, value, values, Sat, InRecord, known}
+use Rattle.calculus.specs.Formula.{Term, var, con, Fmla, truth, rel, eq, neg, conj, disj, exists, fv, fv-term, fv-terms, size, node, nodes}
+use Rattle.calculus.specs.Formula.Laws.{formula-of, left-node, right-node}
+use Rattle.calculus.specs.Satisfaction.{Pool, Database, Env, bind, value, values, Sat, known}
 use Rattle.calculus.specs.Satisfaction.Laws.{bind-other, known-record, known-constant, known-conj-left, known-conj-right}
 use Rattle.calculus.specs.Propagation.{exists-free, cp}
 use Rattle.calculus.specs.Substitution.{subst-for}
 use Rattle.calculus.specs.Generation.{Ap, ap-rel, ap-eq, Gen, gen-false, gen-atom, gen-neg-neg, gen-neg-disj, gen-neg-conj, gen-disj, gen-conj-left, gen-conj-right, gen-conj-eq, gen-conj-eq′, gen-exists, Generated}
 use Rattle.calculus.specs.Generation.Laws.{Equates, origin, sat-neg-conj, sat-neg-neg}
-use Rattle.calculus.specs.Generators.{Leaves, leaf-where, first, both, other-of, equated, through, plain, denied, is-none, GenAt, at-false, at-atom, at-neg-neg, at-neg-disj-left, at-neg-disj-right, at-neg-conj, at-disj, at-conj-left, at-conj-right, at-conj-eq, at-conj-eq′, at-exists, Answered, generated-by, not-generated, Source, SourceAmong}
+use Rattle.calculus.specs.Generators.{Leaves, leaf-where, first, both, equated, through, plain, denied, is-none, GenAt, at-false, at-atom, at-neg-neg, at-neg-disj-left, at-neg-disj-right, at-neg-conj, at-disj, at-conj-left, at-conj-right, at-conj-eq, at-conj-eq′, at-exists, Answered, generated-by, not-generated, Source, SourceAmong}
 
 -- ---- the 000 half of GenAt is 000's gen
 
@@ -282,19 +281,6 @@ module _ (pool : Pool) (D : Database) where
   among-neg : (φ : Fmla) (n : ℕ) {L : List ℕ} {v : ℕ} → SourceAmong pool D (neg φ) n L v → SourceAmong pool D φ n L v
   among-neg φ n {v = v} s = (s .0, s .1, s .2, ⊎-elim (λ i. i) (λ i. absurd (subst (λ χ. Source pool D χ v) (ap formula-of (in-one i)) (s .4))) (in-append (nodes φ n) (s .3)), s .4)
 
-  left-node : (φ ψ : Fmla) (n : ℕ) (rest : List Node) → nodes φ n ⊆ (nodes φ n ++ nodes ψ (n + size φ) ++ rest)
-  left-node φ ψ n rest u i = in-left rest (in-left (nodes ψ (n + size φ)) i)
-
-  right-node : (φ ψ : Fmla) (n : ℕ) (rest : List Node) → nodes ψ (n + size φ) ⊆ (nodes φ n ++ nodes ψ (n + size φ) ++ rest)
-  right-node φ ψ n rest u i = in-left rest (in-right (nodes φ n) i)
-
-  -- From the left and from the right subtree, for an and or an or with root k, and for a not above it with root l.
-  from-left : (φ ψ χ : Fmla) (n k : ℕ) {L M : List ℕ} {v : ℕ} → L ⊆ M → (nodes φ n ++ nodes ψ (n + size φ) ++ (node k χ ∷ [])) ⊆ nodes χ n → SourceAmong pool D φ n L v → SourceAmong pool D χ n M v
-  from-left φ ψ χ n k l h s = among-more φ n χ n l (λ u i. h u (left-node φ ψ n (node k χ ∷ []) u i)) s
-
-  from-right : (φ ψ χ : Fmla) (n k : ℕ) {L M : List ℕ} {v : ℕ} → L ⊆ M → (nodes φ n ++ nodes ψ (n + size φ) ++ (node k χ ∷ [])) ⊆ nodes χ n → SourceAmong pool D ψ (n + size φ) L v → SourceAmong pool D χ n M v
-  from-right φ ψ χ n k l h s = among-more ψ (n + size φ) χ n l (λ u i. h u (right-node φ ψ n (node k χ ∷ []) u i)) s
-
   -- From below a not.
   from-below : (φ : Fmla) (n : ℕ) {L : List ℕ} {v : ℕ} → SourceAmong pool D φ n L v → SourceAmong pool D (neg φ) n L v
   from-below φ n s = among-more φ n (neg φ) n (λ u i. i) (λ u i. in-left (node (n + size φ) (neg φ) ∷ []) i) s
@@ -306,26 +292,26 @@ module _ (pool : Pool) (D : Database) where
   leaf-value (at-atom {x} {n} (ap-eq {x = y} {p}) i) σ s = (n, eq y (con p), here refl, here refl, ap σ (in-one i) ∙ s)
   leaf-value (at-neg-neg {n = n} {φ} d) σ s = from-below (neg φ) n (from-below φ n (leaf-value d σ (sat-neg-neg pool D φ σ s)))
   leaf-value (at-neg-disj-left {n = n} {φ} {ψ} d) σ s =
-      from-below (disj φ ψ) n (from-left φ ψ (disj φ ψ) n (n + (size φ + size ψ)) (λ u i. i) (λ u i. i) (among-neg φ n (leaf-value d σ (λ t. s (inl t)))))
+      from-below (disj φ ψ) n (among-more φ n (disj φ ψ) n (λ u i. i) (left-node (disj φ ψ) φ ψ n) (among-neg φ n (leaf-value d σ (λ t. s (inl t)))))
   leaf-value (at-neg-disj-right {n = n} {φ} {ψ} d) σ s =
-      from-below (disj φ ψ) n (from-right φ ψ (disj φ ψ) n (n + (size φ + size ψ)) (λ u i. i) (λ u i. i) (among-neg ψ (n + size φ) (leaf-value d σ (λ t. s (inr t)))))
+      from-below (disj φ ψ) n (among-more ψ (n + size φ) (disj φ ψ) n (λ u i. i) (right-node (disj φ ψ) φ ψ n) (among-neg ψ (n + size φ) (leaf-value d σ (λ t. s (inr t)))))
   leaf-value (at-neg-conj {n = n} {φ} {ψ} {L = L} {M} d e) σ s =
       from-below (conj φ ψ) n
       (⊎-elim
-      (λ t. from-left φ ψ (conj φ ψ) n (n + (size φ + size ψ)) (λ u i. in-left M i) (λ u i. i) (among-neg φ n (leaf-value d σ t)))
-      (λ t. from-right φ ψ (conj φ ψ) n (n + (size φ + size ψ)) (λ u i. in-right L i) (λ u i. i) (among-neg ψ (n + size φ) (leaf-value e σ t)))
+      (λ t. among-more φ n (conj φ ψ) n (λ u i. in-left M i) (left-node (conj φ ψ) φ ψ n) (among-neg φ n (leaf-value d σ t)))
+      (λ t. among-more ψ (n + size φ) (conj φ ψ) n (λ u i. in-right L i) (right-node (conj φ ψ) φ ψ n) (among-neg ψ (n + size φ) (leaf-value e σ t)))
       (sat-neg-conj pool D φ ψ σ s))
   leaf-value (at-disj {n = n} {φ} {ψ} {L = L} {M} d e) σ s =
       ⊎-elim
-      (λ t. from-left φ ψ (disj φ ψ) n (n + (size φ + size ψ)) (λ u i. in-left M i) (λ u i. i) (leaf-value d σ t))
-      (λ t. from-right φ ψ (disj φ ψ) n (n + (size φ + size ψ)) (λ u i. in-right L i) (λ u i. i) (leaf-value e σ t))
+      (λ t. among-more φ n (disj φ ψ) n (λ u i. in-left M i) (left-node (disj φ ψ) φ ψ n) (leaf-value d σ t))
+      (λ t. among-more ψ (n + size φ) (disj φ ψ) n (λ u i. in-right L i) (right-node (disj φ ψ) φ ψ n) (leaf-value e σ t))
       s
-  leaf-value (at-conj-left {n = n} {φ} {ψ} d) σ s = from-left φ ψ (conj φ ψ) n (n + (size φ + size ψ)) (λ u i. i) (λ u i. i) (leaf-value d σ (s .0))
-  leaf-value (at-conj-right {n = n} {φ} {ψ} d) σ s = from-right φ ψ (conj φ ψ) n (n + (size φ + size ψ)) (λ u i. i) (λ u i. i) (leaf-value d σ (s .1))
+  leaf-value (at-conj-left {n = n} {φ} {ψ} d) σ s = among-more φ n (conj φ ψ) n (λ u i. i) (left-node (conj φ ψ) φ ψ n) (leaf-value d σ (s .0))
+  leaf-value (at-conj-right {n = n} {φ} {ψ} d) σ s = among-more ψ (n + size φ) (conj φ ψ) n (λ u i. i) (right-node (conj φ ψ) φ ψ n) (leaf-value d σ (s .1))
   leaf-value (at-conj-eq {x} {y} {n} {φ} {L = L} d) σ s =
-      from-left φ (eq x (var y)) (conj φ (eq x (var y))) n (n + (size φ + 1)) (λ u i. i) (λ u i. i) (subst⁻¹ (λ v. SourceAmong pool D φ n L v) (s .1) (leaf-value d σ (s .0)))
+      among-more φ n (conj φ (eq x (var y))) n (λ u i. i) (left-node (conj φ (eq x (var y))) φ (eq x (var y)) n) (subst⁻¹ (λ v. SourceAmong pool D φ n L v) (s .1) (leaf-value d σ (s .0)))
   leaf-value (at-conj-eq′ {x} {y} {n} {φ} {L = L} d) σ s =
-      from-left φ (eq y (var x)) (conj φ (eq y (var x))) n (n + (size φ + 1)) (λ u i. i) (λ u i. i) (subst (λ v. SourceAmong pool D φ n L v) (s .1) (leaf-value d σ (s .0)))
+      among-more φ n (conj φ (eq y (var x))) n (λ u i. i) (left-node (conj φ (eq y (var x))) φ (eq y (var x)) n) (subst (λ v. SourceAmong pool D φ n L v) (s .1) (leaf-value d σ (s .0)))
   leaf-value (at-exists {x} {y} {n} {φ} {L = L} m d) σ s =
       among-more φ n (exists y φ) n (λ u i. i) (λ u i. in-left (node (n + size φ) (exists y φ) ∷ []) i)
       (subst (λ v. SourceAmong pool D φ n L v) (bind-other y (s .0) σ x m) (leaf-value d (bind y (s .0) σ) (s .1)))

@@ -1,11 +1,11 @@
 -- Laws of constant propagation. Each clause of cp has a view, a data type of what it can come to; every law goes by the views.
 use Prim.Native.Nat.{ℕ}
 use mathlib.Core.Path.{_≡_, refl, sym, ap, subst, subst⁻¹, _∙_}
-use mathlib.Core.Logic.{_↔_, Iff·rfl, Iff·trans, Iff·not, Iff·and, _⊎_, inl, inr, ⊎-elim, _≢_}
+use mathlib.Core.Logic.{_↔_, Iff·rfl, Iff·trans, Iff·not, Iff·and, inl, inr, ⊎-elim}
 use mathlib.Core.Bool.{Bool, true, false, not, cond}
 use mathlib.Core.List.{List, [], _∷_, _++_}
-use lib.Dec.{T, eqb}
-use Rattle.calculus.specs.Sets.{In, here, there, _⊆_, member, remove, union-of}
+use lib.Dec.{T}
+use Rattle.calculus.specs.Sets.{In, _⊆_, union-of}
 use Rattle.calculus.specs.Sets.Laws.{in-nil, in-left, in-right, in-append-map, in-remove, from-remove, reflects-member}
 use Rattle.calculus.specs.Iff.{iff-either, iff-some}
 use Rattle.calculus.specs.Reflects.{Reflects, holds, fails, reflects-true, reflects-false, reflects-eqb}

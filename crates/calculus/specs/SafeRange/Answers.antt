@@ -1,12 +1,12 @@
 -- The verdict is safe-range, and a safe-range query is never endless: each value of each of its rows is known.
 -- A row's value is that of a column; the column is generated in the form; so the value comes from a leaf of the form.
 use Prim.Native.Nat.{ℕ}
-use mathlib.Core.Path.{_≡_, refl, sym, ap, subst, subst⁻¹, _∙_}
-use mathlib.Core.Logic.{_↔_, _⊎_, inl, inr, ⊎-elim, _≢_}
-use mathlib.Core.Bool.{Bool, true, false, not, cond}
-use mathlib.Core.List.{List, [], _∷_, _++_, map}
-use lib.Dec.{T, ltb}
-use Rattle.calculus.specs.Sets.{In, here, there, _⊆_, select, union-of}
+use mathlib.Core.Path.{_≡_, refl, ap, subst, subst⁻¹}
+use mathlib.Core.Logic.{_↔_, ⊎-elim}
+use mathlib.Core.Bool.{Bool, cond}
+use mathlib.Core.List.{List, [], _∷_}
+use lib.Dec.{ltb}
+use Rattle.calculus.specs.Sets.{In, here, _⊆_}
 use Rattle.calculus.specs.Sets.Laws.{in-nil, in-one, in-select, from-select, in-union, from-union, in-cond}
 use Rattle.calculus.specs.Reflects.{Reflects, holds, fails, reflects, reflected, reflects-false, reflects-map, reflects-and}
 use Rattle.calculus.specs.Formula.{Fmla, truth, rel, eq, neg, conj, disj, exists, fv, Node, node, nodes}
@@ -14,10 +14,10 @@ use Rattle.calculus.specs.Satisfaction.{Pool, Database, Sat, known}
 use Rattle.calculus.specs.Propagation.{cp}
 use Rattle.calculus.specs.Propagation.Laws.{cp-sat, known-cp}
 use Rattle.calculus.specs.Generation.{Generated}
-use Rattle.calculus.specs.Generators.{Leaves, plain, is-none, columns, unranged-node, Verdict, verdict, is-empty, safe}
+use Rattle.calculus.specs.Generators.{plain, is-none, columns, unranged-node, verdict, is-empty, safe}
 use Rattle.calculus.specs.Generators.Laws.{reflects-none, generated-decided, generated-known}
-use Rattle.calculus.specs.SafeRange.{HasNode, Rrb, SafeRange}
-use Rattle.calculus.specs.Order.{Ascending, sort}
+use Rattle.calculus.specs.SafeRange.{SafeRange}
+use Rattle.calculus.specs.Order.{Ascending}
 use Rattle.calculus.specs.Order.Laws.{ltb-order, sort-members, sort-ascending}
 use Rattle.calculus.specs.Rows.{Row, row-env, Answer, Endless, endless, listed}
 use Rattle.calculus.specs.Rows.Laws.{row-env-column}

@@ -1,13 +1,13 @@
 -- Laws of finite sets as lists.
-use Prim.Native.Nat.{ℕ, zero, suc, _<_, _≤_, max}
-use native.Mathlib.Nat.{lt-irrefl, le-max-left, le-max-right, le-trans, lt-of-lt-of-le}
-use mathlib.Core.Path.{_≡_, refl, sym, ap, subst, subst⁻¹, _∙_}
+use Prim.Native.Nat.{ℕ, suc, _<_, _≤_}
+use native.Mathlib.Nat.{lt-irrefl, le-max-left, le-max-right, lt-of-lt-of-le}
+use mathlib.Core.Path.{_≡_, refl, sym, ap, subst, subst⁻¹}
 use mathlib.Core.Logic.{_↔_, _⊎_, inl, inr, ⊎-elim, _≢_}
-use mathlib.Core.Bool.{Bool, true, false, not, _&&_, _||_, cond}
+use mathlib.Core.Bool.{Bool, true, false, not, cond}
 use mathlib.Core.List.{List, [], _∷_, _++_, map}
 use lib.Dec.{T, eqb}
 use Rattle.calculus.specs.Sets.{In, here, there, _⊆_, any-of, all-of, select, union-of, member, remove, fresh, same-by, same-list}
-use Rattle.calculus.specs.Reflects.{Reflects, holds, fails, reflects, reflected, reflects-T, reflects-map, reflects-not, reflects-and, reflects-eqb, reflects-any, Any}
+use Rattle.calculus.specs.Reflects.{Reflects, holds, fails, reflects, reflected, reflects-map, reflects-not, reflects-and, reflects-eqb, reflects-any, Any}
 
 pub in-nil : {A : Type 0} {x : A} → ¬ In x []
 in-nil = elim [ ]
