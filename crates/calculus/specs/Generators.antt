@@ -111,9 +111,13 @@ Source pool D (conj φ ψ) v = ⊥
 Source pool D (disj φ ψ) v = ⊥
 Source pool D (exists z φ) v = ⊥
 
--- v has its value from one of the nodes L of φ, whose nodes are numbered from n.
+-- The node p of φ, whose nodes are numbered from n, holds a formula with the property P.
+abbrev pub AtNode : (Fmla → Type 0) → Fmla → ℕ → ℕ → Type 0
+AtNode P φ n p = (χ : Fmla) × In (node p χ) (nodes φ n) × P χ
+
+-- v has its value from one of the nodes L of φ.
 abbrev pub SourceAmong : Pool → Database → Fmla → ℕ → List ℕ → ℕ → Type 0
-SourceAmong pool D φ n L v = (p : ℕ) × (χ : Fmla) × In p L × In (node p χ) (nodes φ n) × Source pool D χ v
+SourceAmong pool D φ n L v = (p : ℕ) × In p L × AtNode (λ χ. Source pool D χ v) φ n p
 
 -- Columns: the free variables of the query as read, ascending.
 abbrev pub columns : Fmla → List ℕ

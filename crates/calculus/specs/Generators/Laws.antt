@@ -6,18 +6,19 @@ use mathlib.Core.Logic.{_⊎_, inl, inr, ⊎-elim, _≢_}
 use mathlib.Core.Bool.{Bool, true, false, cond}
 use mathlib.Core.List.{List, [], _∷_, _++_, map}
 use mathlib.Core.Option.{Option, none, some}
+use lib.ListN.{length, length-append, length-map}
 use Rattle.calculus.specs.Sets.{In, here, _⊆_}
 use Rattle.calculus.specs.Sets.Laws.{in-nil, in-one, in-left, in-right, in-append, in-map, from-union, reflects-member}
 use Rattle.calculus.specs.Reflects.{Reflects, holds, fails, reflects-eqb, reflects-map, decided}
 use Rattle.calculus.specs.Formula.{Term, var, con, Fmla, truth, rel, eq, neg, conj, disj, exists, fv, fv-term, fv-terms, size, node, nodes}
-use Rattle.calculus.specs.Formula.Laws.{formula-of, left-node, right-node}
+use Rattle.calculus.specs.Formula.Laws.{formula-of, joined, left-node, right-node}
 use Rattle.calculus.specs.Satisfaction.{Pool, Database, Env, bind, value, values, Sat, known}
 use Rattle.calculus.specs.Satisfaction.Laws.{bind-other, known-record, known-constant, known-conj-left, known-conj-right}
 use Rattle.calculus.specs.Propagation.{exists-free, cp}
 use Rattle.calculus.specs.Substitution.{subst-for}
 use Rattle.calculus.specs.Generation.{Ap, ap-rel, ap-eq, Gen, gen-false, gen-atom, gen-neg-neg, gen-neg-disj, gen-neg-conj, gen-disj, gen-conj-left, gen-conj-right, gen-conj-eq, gen-conj-eq′, gen-exists, Generated}
 use Rattle.calculus.specs.Generation.Laws.{Equates, origin, sat-neg-conj, sat-neg-neg}
-use Rattle.calculus.specs.Generators.{Leaves, leaf-where, first, both, equated, through, plain, denied, is-none, GenAt, at-false, at-atom, at-neg-neg, at-neg-disj-left, at-neg-disj-right, at-neg-conj, at-disj, at-conj-left, at-conj-right, at-conj-eq, at-conj-eq′, at-exists, Answered, generated-by, not-generated, Source, SourceAmong}
+use Rattle.calculus.specs.Generators.{Leaves, leaf-where, first, both, equated, through, plain, denied, is-none, GenAt, at-false, at-atom, at-neg-neg, at-neg-disj-left, at-neg-disj-right, at-neg-conj, at-disj, at-conj-left, at-conj-right, at-conj-eq, at-conj-eq′, at-exists, Answered, generated-by, not-generated, AtNode, Source, SourceAmong}
 
 -- ---- the 000 half of GenAt is 000's gen
 
@@ -262,6 +263,88 @@ generated-decided x φ = go (plain-answered φ 0 x)
     go (generated-by G d) = inl (G, gen-at-gen d)
     go (not-generated p) = inr p
 
+-- ---- the leaves are atoms of the formula
+
+-- A node stays one when more nodes are numbered about it.
+at-node-more : (P : Fmla → Type 0) (φ : Fmla) (n : ℕ) (ψ : Fmla) (m : ℕ) {p : ℕ} → nodes φ n ⊆ nodes ψ m → AtNode P φ n p → AtNode P ψ m p
+at-node-more P φ n ψ m {p} h a = (a .0, h (node p (a .0)) (a .1), a .2)
+
+-- What no not has is found below it.
+at-node-neg : (P : Fmla → Type 0) (φ : Fmla) (n : ℕ) {p : ℕ} → ¬ P (neg φ) → AtNode P (neg φ) n p → AtNode P φ n p
+at-node-neg P φ n k a = (a .0, ⊎-elim (λ i. i) (λ i. absurd (k (subst P (ap formula-of (in-one i)) (a .2)))) (in-append (nodes φ n) (a .1)), a .2)
+
+abbrev is-neg : Fmla → Type 0
+is-neg (truth b) = ⊥
+is-neg (rel r ts) = ⊥
+is-neg (eq x t) = ⊥
+is-neg (neg φ) = Unit {0}
+is-neg (conj φ ψ) = ⊥
+is-neg (disj φ ψ) = ⊥
+is-neg (exists z φ) = ⊥
+
+atom-no-neg : {φ : Fmla} → Ap φ → ¬ is-neg φ
+atom-no-neg ap-rel t = t
+atom-no-neg ap-eq t = t
+
+-- Each leaf of the formula and where it stands, for an and, an or, or what is below a not.
+atom-below : (φ : Fmla) (n : ℕ) {p : ℕ} → AtNode Ap φ n p → AtNode Ap (neg φ) n p
+atom-below φ n a = at-node-more Ap φ n (neg φ) n (λ u i. in-left (node (n + size φ) (neg φ) ∷ []) i) a
+
+atom-left : (ω φ ψ : Fmla) (n : ℕ) {p : ℕ} → joined ω φ ψ n ⊆ nodes ω n → AtNode Ap φ n p → AtNode Ap ω n p
+atom-left ω φ ψ n h a = at-node-more Ap φ n ω n (λ u i. h u (left-node ω φ ψ n u i)) a
+
+atom-right : (ω φ ψ : Fmla) (n : ℕ) {p : ℕ} → joined ω φ ψ n ⊆ nodes ω n → AtNode Ap ψ (n + size φ) p → AtNode Ap ω n p
+atom-right ω φ ψ n h a = at-node-more Ap ψ (n + size φ) ω n (λ u i. h u (right-node ω φ ψ n u i)) a
+
+atom-neg : (φ : Fmla) (n : ℕ) {p : ℕ} → AtNode Ap (neg φ) n p → AtNode Ap φ n p
+atom-neg φ n a = at-node-neg Ap φ n (λ t. atom-no-neg t tt) a
+
+-- Every leaf that is named is the number of an atom of the formula.
+pub leaf-atom : {x n : ℕ} {φ : Fmla} {G : List Fmla} {L : List ℕ} → GenAt x φ n G L → (p : ℕ) → In p L → AtNode Ap φ n p
+leaf-atom at-false p i = absurd (in-nil i)
+leaf-atom (at-atom {n = n} {φ} a j) p i = at-root a (in-one i)
+  where
+    at-root : {φ : Fmla} → Ap φ → p ≡ n → AtNode Ap φ n p
+    at-root (ap-rel {r} {ts}) e = (rel r ts, here (ap (λ m. node m (rel r ts)) e), ap-rel)
+    at-root (ap-eq {x = y} {p = q}) e = (eq y (con q), here (ap (λ m. node m (eq y (con q))) e), ap-eq)
+leaf-atom (at-neg-neg {n = n} {φ} d) p i = atom-below (neg φ) n (atom-below φ n (leaf-atom d p i))
+leaf-atom (at-neg-disj-left {n = n} {φ} {ψ} d) p i = atom-below (disj φ ψ) n (atom-left (disj φ ψ) φ ψ n (λ u j. j) (atom-neg φ n (leaf-atom d p i)))
+leaf-atom (at-neg-disj-right {n = n} {φ} {ψ} d) p i = atom-below (disj φ ψ) n (atom-right (disj φ ψ) φ ψ n (λ u j. j) (atom-neg ψ (n + size φ) (leaf-atom d p i)))
+leaf-atom (at-neg-conj {n = n} {φ} {ψ} {L = L} d e) p i =
+    atom-below (conj φ ψ) n
+    (⊎-elim
+    (λ j. atom-left (conj φ ψ) φ ψ n (λ u k. k) (atom-neg φ n (leaf-atom d p j)))
+    (λ j. atom-right (conj φ ψ) φ ψ n (λ u k. k) (atom-neg ψ (n + size φ) (leaf-atom e p j)))
+    (in-append L i))
+leaf-atom (at-disj {n = n} {φ} {ψ} {L = L} d e) p i =
+    ⊎-elim
+    (λ j. atom-left (disj φ ψ) φ ψ n (λ u k. k) (leaf-atom d p j))
+    (λ j. atom-right (disj φ ψ) φ ψ n (λ u k. k) (leaf-atom e p j))
+    (in-append L i)
+leaf-atom (at-conj-left {n = n} {φ} {ψ} d) p i = atom-left (conj φ ψ) φ ψ n (λ u j. j) (leaf-atom d p i)
+leaf-atom (at-conj-right {n = n} {φ} {ψ} d) p i = atom-right (conj φ ψ) φ ψ n (λ u j. j) (leaf-atom d p i)
+leaf-atom (at-conj-eq {x} {y} {n} {φ} d) p i = atom-left (conj φ (eq x (var y))) φ (eq x (var y)) n (λ u j. j) (leaf-atom d p i)
+leaf-atom (at-conj-eq′ {x} {y} {n} {φ} d) p i = atom-left (conj φ (eq y (var x))) φ (eq y (var x)) n (λ u j. j) (leaf-atom d p i)
+leaf-atom (at-exists {y = y} {n} {φ} m d) p i = at-node-more Ap φ n (exists y φ) n (λ u j. in-left (node (n + size φ) (exists y φ) ∷ []) j) (leaf-atom d p i)
+
+append-lengths : {A B : Type 0} (xs ys : List A) (us vs : List B) → length xs ≡ length us → length ys ≡ length vs → length (xs ++ ys) ≡ length (us ++ vs)
+append-lengths xs ys us vs e f = length-append xs ys ∙ (λ i. e i + f i) ∙ sym (length-append us vs)
+
+-- There are as many leaves as generators: each generator is one leaf's atom, with 000's substitutions and quantifiers.
+pub leaves-generators : {x n : ℕ} {φ : Fmla} {G : List Fmla} {L : List ℕ} → GenAt x φ n G L → length G ≡ length L
+leaves-generators at-false = refl
+leaves-generators (at-atom a i) = refl
+leaves-generators (at-neg-neg d) = leaves-generators d
+leaves-generators (at-neg-disj-left d) = leaves-generators d
+leaves-generators (at-neg-disj-right d) = leaves-generators d
+leaves-generators (at-neg-conj {G = G} {H} {L} {M} d e) = append-lengths G H L M (leaves-generators d) (leaves-generators e)
+leaves-generators (at-disj {G = G} {H} {L} {M} d e) = append-lengths G H L M (leaves-generators d) (leaves-generators e)
+leaves-generators (at-conj-left d) = leaves-generators d
+leaves-generators (at-conj-right d) = leaves-generators d
+leaves-generators (at-conj-eq {x} {y} {G = G} d) = length-map G (λ χ. cp (subst-for χ y x)) ∙ leaves-generators d
+leaves-generators (at-conj-eq′ {x} {y} {G = G} d) = length-map G (λ χ. cp (subst-for χ y x)) ∙ leaves-generators d
+leaves-generators (at-exists {y = y} {G = G} m d) = length-map G (exists-free y) ∙ leaves-generators d
+
 -- ---- where a generated variable has its value from
 
 -- A variable of a record's terms has one of the record's values.
@@ -273,13 +356,11 @@ in-values pool σ x ts i = let s = from-union fv-term ts i in subst (λ u. In u 
     at-term (con p) j = absurd (in-nil j)
 
 module _ (pool : Pool) (D : Database) where
-  -- A leaf stays one when more nodes are numbered about it.
   among-more : (φ : Fmla) (n : ℕ) (ψ : Fmla) (m : ℕ) {L M : List ℕ} {v : ℕ} → L ⊆ M → nodes φ n ⊆ nodes ψ m → SourceAmong pool D φ n L v → SourceAmong pool D ψ m M v
-  among-more φ n ψ m l h s = (s .0, s .1, l (s .0) (s .2), h (node (s .0) (s .1)) (s .3), s .4)
+  among-more φ n ψ m {v = v} l h s = (s .0, l (s .0) (s .1), at-node-more (λ χ. Source pool D χ v) φ n ψ m h (s .2))
 
-  -- A not is no leaf.
   among-neg : (φ : Fmla) (n : ℕ) {L : List ℕ} {v : ℕ} → SourceAmong pool D (neg φ) n L v → SourceAmong pool D φ n L v
-  among-neg φ n {v = v} s = (s .0, s .1, s .2, ⊎-elim (λ i. i) (λ i. absurd (subst (λ χ. Source pool D χ v) (ap formula-of (in-one i)) (s .4))) (in-append (nodes φ n) (s .3)), s .4)
+  among-neg φ n {v = v} s = (s .0, s .1, at-node-neg (λ χ. Source pool D χ v) φ n (λ e. e) (s .2))
 
   -- From below a not.
   from-below : (φ : Fmla) (n : ℕ) {L : List ℕ} {v : ℕ} → SourceAmong pool D φ n L v → SourceAmong pool D (neg φ) n L v
@@ -288,8 +369,8 @@ module _ (pool : Pool) (D : Database) where
   -- A generated variable of a satisfied formula has its value from one of the leaves.
   pub leaf-value : {x n : ℕ} {φ : Fmla} {G : List Fmla} {L : List ℕ} → GenAt x φ n G L → (σ : Env) → Sat pool D φ σ → SourceAmong pool D φ n L (σ x)
   leaf-value at-false σ s = absurd s
-  leaf-value (at-atom {x} {n} (ap-rel {r} {ts}) i) σ s = (n, rel r ts, here refl, here refl, (values pool σ ts, s, in-values pool σ x ts i))
-  leaf-value (at-atom {x} {n} (ap-eq {x = y} {p}) i) σ s = (n, eq y (con p), here refl, here refl, ap σ (in-one i) ∙ s)
+  leaf-value (at-atom {x} {n} (ap-rel {r} {ts}) i) σ s = (n, here refl, (rel r ts, here refl, (values pool σ ts, s, in-values pool σ x ts i)))
+  leaf-value (at-atom {x} {n} (ap-eq {x = y} {p}) i) σ s = (n, here refl, (eq y (con p), here refl, ap σ (in-one i) ∙ s))
   leaf-value (at-neg-neg {n = n} {φ} d) σ s = from-below (neg φ) n (from-below φ n (leaf-value d σ (sat-neg-neg pool D φ σ s)))
   leaf-value (at-neg-disj-left {n = n} {φ} {ψ} d) σ s =
       from-below (disj φ ψ) n (among-more φ n (disj φ ψ) n (λ u i. i) (left-node (disj φ ψ) φ ψ n) (among-neg φ n (leaf-value d σ (λ t. s (inl t)))))
@@ -356,5 +437,5 @@ module _ (pool : Pool) (D : Database) where
   generated-known x φ g σ s = go (plain-answered φ 0 x)
     where
       go : {l : Leaves} → Answered x φ 0 l → In (σ x) (known pool D φ)
-      go (generated-by G d) = let a = leaf-value d σ s in node-known φ 0 (a .0) (a .1) (a .3) (σ x) (source-known (a .1) (σ x) (a .4))
+      go (generated-by G d) = let a = leaf-value d σ s in node-known φ 0 (a .0) (a .2 .0) (a .2 .1) (σ x) (source-known (a .2 .0) (σ x) (a .2 .2))
       go (not-generated n) = absurd (n g)
