@@ -3,9 +3,7 @@ use Prim.Native.Nat.{ℕ, suc, _<_}
 use mathlib.Core.Path.{_≡_, refl, subst}
 use mathlib.Core.Logic.{_⊎_, inl, inr}
 use mathlib.Core.Bool.{Bool, true, false, not, _&&_, _||_}
-use mathlib.Core.List.{List, [], _∷_}
 use lib.Dec.{T, eqb, eqb→eq, eqb-refl, leb→le, le→leb, ltb}
-use Rattle.calculus.specs.Sets.{In, here, there, any-of}
 
 -- `Reflects A b`: the test b answers whether A holds.
 pub data Reflects (A : Type 0) : Bool → Type 0 where
@@ -66,25 +64,3 @@ reflects-eqb m n = reflects-map (eqb→eq m n) (λ e. subst (λ (k : ℕ). T (eq
 
 pub reflects-ltb : (m n : ℕ) → Reflects (m < n) (ltb m n)
 reflects-ltb m n = reflects-map (leb→le (suc m) n) (le→leb (suc m) n) (reflects-T (ltb m n))
-
--- Some member has the property.
-abbrev pub Any : {A : Type 0} → (A → Type 0) → List A → Type 0
-Any {A} P xs = (x : A) × In x xs × P x
-
-in-nil : {A : Type 0} {x : A} → ¬ In x []
-in-nil = elim [ ]
-
-pub reflects-any : {A : Type 0} {P : A → Type 0} (p : A → Bool) (xs : List A) → ((x : A) → In x xs → Reflects (P x) (p x)) → Reflects (Any P xs) (any-of p xs)
-reflects-any p [] r = fails (λ s. in-nil (s .1))
-reflects-any {A} {P} p (x ∷ xs) r = reflects-map join split (reflects-or (r x (here refl)) (reflects-any p xs (λ y i. r y (there i))))
-  where
-    join : P x ⊎ Any P xs → Any P (x ∷ xs)
-    join (inl h) = (x, here refl, h)
-    join (inr s) = (s .0, there (s .1), s .2)
-
-    split-at : (y : A) → In y (x ∷ xs) → P y → P x ⊎ Any P xs
-    split-at y (here e) h = inl (subst P e h)
-    split-at y (there i) h = inr (y, i, h)
-
-    split : Any P (x ∷ xs) → P x ⊎ Any P xs
-    split s = split-at (s .0) (s .1) (s .2)

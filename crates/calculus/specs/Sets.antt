@@ -18,6 +18,10 @@ module _ {A : Type 0} where
   abbrev pub _⊆_ : List A → List A → Type 0
   xs ⊆ ys = (x : A) → In x xs → In x ys
 
+  -- Some member has the property.
+  abbrev pub Any : (A → Type 0) → List A → Type 0
+  Any P xs = (x : A) × In x xs × P x
+
   -- Some member passes the test.
   abbrev pub any-of : (A → Bool) → List A → Bool
   any-of p [] = false

@@ -4,9 +4,8 @@ use mathlib.Core.Path.{_≡_, refl, sym, ap, _∙_}
 use mathlib.Core.Logic.{_⊎_, inl, inr, ⊎-elim, _≢_}
 use mathlib.Core.Bool.{true, false}
 use mathlib.Core.List.{List, [], _∷_, _++_, map}
-use Rattle.calculus.specs.Sets.{In, here}
+use Rattle.calculus.specs.Sets.{Any, In, here}
 use Rattle.calculus.specs.Sets.Laws.{in-one, in-left, in-right, in-map}
-use Rattle.calculus.specs.Reflects.{Any}
 use Rattle.calculus.specs.Formula.{var, con, Fmla, truth, rel, eq, neg, conj, disj, exists, fv, fv-terms}
 use Rattle.calculus.specs.Satisfaction.{Pool, Database, Env, bind, Sat}
 use Rattle.calculus.specs.Satisfaction.Laws.{bind-cases, sat-cong}

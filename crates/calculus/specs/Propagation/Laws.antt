@@ -65,9 +65,6 @@ cp-disj-neither {φ} {ψ} e f = λ i. cond (e i) (cond (truth-of φ) (truth true
 pub exists-kept : (z : ℕ) (φ : Fmla) → In z (fv φ) → exists-free z φ ≡ exists z φ
 exists-kept z φ i = cond-is (exists z φ) φ (reflects-true (reflects-member z (fv φ)) i)
 
-pub exists-dropped : (z : ℕ) (φ : Fmla) → ¬ In z (fv φ) → exists-free z φ ≡ φ
-exists-dropped z φ n = cond-is (exists z φ) φ (reflects-false (reflects-member z (fv φ)) n)
-
 pub neg-view : (φ : Fmla) → NegView φ (cp-neg φ)
 neg-view φ = go (truth-view φ)
   where

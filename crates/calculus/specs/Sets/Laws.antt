@@ -6,8 +6,8 @@ use mathlib.Core.Logic.{_↔_, _⊎_, inl, inr, ⊎-elim, _≢_}
 use mathlib.Core.Bool.{Bool, true, false, not, cond}
 use mathlib.Core.List.{List, [], _∷_, _++_, map}
 use lib.Dec.{T, eqb}
-use Rattle.calculus.specs.Sets.{In, here, there, _⊆_, any-of, all-of, select, union-of, member, remove, fresh, same-by, same-list}
-use Rattle.calculus.specs.Reflects.{Reflects, holds, fails, reflects, reflected, reflects-map, reflects-not, reflects-and, reflects-eqb, reflects-any, Any}
+use Rattle.calculus.specs.Sets.{Any, In, here, there, _⊆_, any-of, all-of, select, union-of, member, remove, fresh, same-by, same-list}
+use Rattle.calculus.specs.Reflects.{Reflects, holds, fails, reflects, reflected, reflects-map, reflects-not, reflects-and, reflects-or, reflects-eqb}
 
 pub in-nil : {A : Type 0} {x : A} → ¬ In x []
 in-nil = elim [ ]
@@ -121,6 +121,21 @@ from-select {A} p {x} (y ∷ xs) i = go (p y) (λ t. t) (λ j. from-select p xs 
     go false k r j = (there (r j .0), r j .1)
 
 -- ---- tests
+
+pub reflects-any : {A : Type 0} {P : A → Type 0} (p : A → Bool) (xs : List A) → ((x : A) → In x xs → Reflects (P x) (p x)) → Reflects (Any P xs) (any-of p xs)
+reflects-any p [] r = fails (λ s. in-nil (s .1))
+reflects-any {A} {P} p (x ∷ xs) r = reflects-map join split (reflects-or (r x (here refl)) (reflects-any p xs (λ y i. r y (there i))))
+  where
+    join : P x ⊎ Any P xs → Any P (x ∷ xs)
+    join (inl h) = (x, here refl, h)
+    join (inr s) = (s .0, there (s .1), s .2)
+
+    split-at : (y : A) → In y (x ∷ xs) → P y → P x ⊎ Any P xs
+    split-at y (here e) h = inl (subst P e h)
+    split-at y (there i) h = inr (y, i, h)
+
+    split : Any P (x ∷ xs) → P x ⊎ Any P xs
+    split s = split-at (s .0) (s .1) (s .2)
 
 -- A member is found by a test for equality.
 pub reflects-in : {A : Type 0} (same : A → A → Bool) → ((x y : A) → Reflects (x ≡ y) (same x y)) → (x : A) (xs : List A) → Reflects (In x xs) (any-of (same x) xs)
