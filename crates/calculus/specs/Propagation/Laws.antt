@@ -39,6 +39,11 @@ abbrev pub join : Bool → Fmla → Fmla → Fmla
 join true φ ψ = conj φ ψ
 join false φ ψ = disj φ ψ
 
+-- What cp makes of them, given the propagated children.
+abbrev pub cp-join : Bool → Fmla → Fmla → Fmla
+cp-join true φ ψ = cp-conj φ ψ
+cp-join false φ ψ = cp-disj φ ψ
+
 pub data JoinView (u : Bool) : Fmla → Fmla → Fmla → Type 0 where
   left-unit : {ψ : Fmla} → JoinView u (truth u) ψ ψ
   left-zero : {ψ : Fmla} → JoinView u (truth (not u)) ψ (truth (not u))
@@ -53,14 +58,30 @@ pub data ExistsView (z : ℕ) (φ : Fmla) : Fmla → Type 0 where
 cond-is : {A : Type 0} (x y : A) {b c : Bool} → b ≡ c → cond b x y ≡ cond c x y
 cond-is x y e = ap (λ b. cond b x y) e
 
-pub cp-neg-other : {φ : Fmla} → is-truth φ ≡ false → cp-neg φ ≡ neg φ
-cp-neg-other {φ} e = cond-is (truth (not (truth-of φ))) (neg φ) e
+pub cp-neg-other : (φ : Fmla) → is-truth φ ≡ false → cp-neg φ ≡ neg φ
+cp-neg-other φ e = cond-is (truth (not (truth-of φ))) (neg φ) e
 
-pub cp-conj-neither : {φ ψ : Fmla} → is-truth φ ≡ false → is-truth ψ ≡ false → cp-conj φ ψ ≡ conj φ ψ
-cp-conj-neither {φ} {ψ} e f = λ i. cond (e i) (cond (truth-of φ) ψ (truth false)) (cond (f i) (cond (truth-of ψ) φ (truth false)) (conj φ ψ))
+-- A truth value beside a formula: the one that the and or the or drops, and the other, which decides it.
+pub join-unit-left : (u : Bool) (ψ : Fmla) → cp-join u (truth u) ψ ≡ ψ
+join-unit-left true ψ = refl
+join-unit-left false ψ = refl
 
-pub cp-disj-neither : {φ ψ : Fmla} → is-truth φ ≡ false → is-truth ψ ≡ false → cp-disj φ ψ ≡ disj φ ψ
-cp-disj-neither {φ} {ψ} e f = λ i. cond (e i) (cond (truth-of φ) (truth true) ψ) (cond (f i) (cond (truth-of ψ) (truth true) φ) (disj φ ψ))
+pub join-zero-left : (u : Bool) (ψ : Fmla) → cp-join u (truth (not u)) ψ ≡ truth (not u)
+join-zero-left true ψ = refl
+join-zero-left false ψ = refl
+
+pub join-unit-right : (u : Bool) (φ : Fmla) → is-truth φ ≡ false → cp-join u φ (truth u) ≡ φ
+join-unit-right true φ e = cond-is (cond (truth-of φ) (truth true) (truth false)) φ e
+join-unit-right false φ e = cond-is (cond (truth-of φ) (truth true) (truth false)) φ e
+
+pub join-zero-right : (u : Bool) (φ : Fmla) → is-truth φ ≡ false → cp-join u φ (truth (not u)) ≡ truth (not u)
+join-zero-right true φ e = cond-is (cond (truth-of φ) (truth false) (truth false)) (truth false) e
+join-zero-right false φ e = cond-is (cond (truth-of φ) (truth true) (truth true)) (truth true) e
+
+-- Without a truth value it stays.
+pub join-neither : (u : Bool) (φ ψ : Fmla) → is-truth φ ≡ false → is-truth ψ ≡ false → cp-join u φ ψ ≡ join u φ ψ
+join-neither true φ ψ e f = λ i. cond (e i) (cond (truth-of φ) ψ (truth false)) (cond (f i) (cond (truth-of ψ) φ (truth false)) (conj φ ψ))
+join-neither false φ ψ e f = λ i. cond (e i) (cond (truth-of φ) (truth true) ψ) (cond (f i) (cond (truth-of ψ) (truth true) φ) (disj φ ψ))
 
 pub exists-kept : (z : ℕ) (φ : Fmla) → In z (fv φ) → exists-free z φ ≡ exists z φ
 exists-kept z φ i = cond-is (exists z φ) φ (reflects-true (reflects-member z (fv φ)) i)
@@ -70,39 +91,33 @@ neg-view φ = go (truth-view φ)
   where
     go : {φ : Fmla} → TruthView φ → NegView φ (cp-neg φ)
     go (a-truth b) = neg-truth b
-    go {φ} (no-truth e) = subst⁻¹ (NegView φ) (cp-neg-other e) (neg-other e)
+    go {φ} (no-truth e) = subst⁻¹ (NegView φ) (cp-neg-other φ e) (neg-other e)
 
-pub conj-view : (φ ψ : Fmla) → JoinView true φ ψ (cp-conj φ ψ)
-conj-view φ ψ = go (truth-view φ) (truth-view ψ)
+pub join-view : (u : Bool) (φ ψ : Fmla) → JoinView u φ ψ (cp-join u φ ψ)
+join-view u φ ψ = go (truth-view φ) (truth-view ψ)
   where
-    left : (b : Bool) (ψ : Fmla) → JoinView true (truth b) ψ (cp-conj (truth b) ψ)
-    left true ψ = left-unit
-    left false ψ = left-zero
+    left : (u b : Bool) (ψ : Fmla) → JoinView u (truth b) ψ (cp-join u (truth b) ψ)
+    left true true ψ = left-unit
+    left true false ψ = left-zero
+    left false true ψ = left-zero
+    left false false ψ = left-unit
 
-    right : {φ : Fmla} → is-truth φ ≡ false → (b : Bool) → JoinView true φ (truth b) (cond b φ (truth false))
-    right e true = right-unit e
-    right e false = right-zero e
+    unit : (u : Bool) {φ : Fmla} → is-truth φ ≡ false → JoinView u φ (truth u) (cp-join u φ (truth u))
+    unit u {φ} e = subst⁻¹ (JoinView u φ (truth u)) (join-unit-right u φ e) (right-unit e)
 
-    go : {φ ψ : Fmla} → TruthView φ → TruthView ψ → JoinView true φ ψ (cp-conj φ ψ)
-    go {ψ = ψ} (a-truth b) v = left b ψ
-    go {φ} (no-truth e) (a-truth b) = subst⁻¹ (JoinView true φ (truth b)) (cond-is (cond (truth-of φ) (truth b) (truth false)) (cond b φ (truth false)) e) (right e b)
-    go {φ} {ψ} (no-truth e) (no-truth f) = subst⁻¹ (JoinView true φ ψ) (cp-conj-neither e f) (neither e f)
+    zero : (u : Bool) {φ : Fmla} → is-truth φ ≡ false → JoinView u φ (truth (not u)) (cp-join u φ (truth (not u)))
+    zero u {φ} e = subst⁻¹ (JoinView u φ (truth (not u))) (join-zero-right u φ e) (right-zero e)
 
-pub disj-view : (φ ψ : Fmla) → JoinView false φ ψ (cp-disj φ ψ)
-disj-view φ ψ = go (truth-view φ) (truth-view ψ)
-  where
-    left : (b : Bool) (ψ : Fmla) → JoinView false (truth b) ψ (cp-disj (truth b) ψ)
-    left true ψ = left-zero
-    left false ψ = left-unit
+    right : (u b : Bool) {φ : Fmla} → is-truth φ ≡ false → JoinView u φ (truth b) (cp-join u φ (truth b))
+    right true true e = unit true e
+    right true false e = zero true e
+    right false true e = zero false e
+    right false false e = unit false e
 
-    right : {φ : Fmla} → is-truth φ ≡ false → (b : Bool) → JoinView false φ (truth b) (cond b (truth true) φ)
-    right e true = right-zero e
-    right e false = right-unit e
-
-    go : {φ ψ : Fmla} → TruthView φ → TruthView ψ → JoinView false φ ψ (cp-disj φ ψ)
-    go {ψ = ψ} (a-truth b) v = left b ψ
-    go {φ} (no-truth e) (a-truth b) = subst⁻¹ (JoinView false φ (truth b)) (cond-is (cond (truth-of φ) (truth true) (truth b)) (cond b (truth true) φ) e) (right e b)
-    go {φ} {ψ} (no-truth e) (no-truth f) = subst⁻¹ (JoinView false φ ψ) (cp-disj-neither e f) (neither e f)
+    go : {φ ψ : Fmla} → TruthView φ → TruthView ψ → JoinView u φ ψ (cp-join u φ ψ)
+    go {ψ = ψ} (a-truth b) v = left u b ψ
+    go (no-truth e) (a-truth b) = right u b e
+    go (no-truth {φ} e) (no-truth {φ = ψ} f) = subst⁻¹ (JoinView u φ ψ) (join-neither u φ ψ e f) (neither e f)
 
 pub exists-view : (z : ℕ) (φ : Fmla) → ExistsView z φ (exists-free z φ)
 exists-view z φ = go (reflects-member z (fv φ))
@@ -159,8 +174,8 @@ module _ (pool : Pool) (D : Database) where
   cp-sat (rel r ts) σ = Iff·rfl
   cp-sat (eq x t) σ = eq-sat x t σ
   cp-sat (neg φ) σ = Iff·trans (neg-sat σ (neg-view (cp φ))) (Iff·not (cp-sat φ σ))
-  cp-sat (conj φ ψ) σ = Iff·trans (join-sat true σ (conj-view (cp φ) (cp ψ))) (Iff·and (cp-sat φ σ) (cp-sat ψ σ))
-  cp-sat (disj φ ψ) σ = Iff·trans (join-sat false σ (disj-view (cp φ) (cp ψ))) (iff-either (cp-sat φ σ) (cp-sat ψ σ))
+  cp-sat (conj φ ψ) σ = Iff·trans (join-sat true σ (join-view true (cp φ) (cp ψ))) (Iff·and (cp-sat φ σ) (cp-sat ψ σ))
+  cp-sat (disj φ ψ) σ = Iff·trans (join-sat false σ (join-view false (cp φ) (cp ψ))) (iff-either (cp-sat φ σ) (cp-sat ψ σ))
   cp-sat (exists z φ) σ = Iff·trans (exists-sat z (cp φ) σ) (iff-some (λ v. cp-sat φ (bind z v σ)))
 
 -- ---- what the form collects is among what the query does
@@ -197,8 +212,8 @@ module _ (f : Fmla → List ℕ) (g : Gathered f) where
   gathered-cp (rel r ts) x i = i
   gathered-cp (eq y t) x i = g .at-eq y t x i
   gathered-cp (neg φ) x i = subst⁻¹ (In x) (g .at-neg φ) (gathered-cp φ x (neg-gathered (neg-view (cp φ)) x i))
-  gathered-cp (conj φ ψ) x i = subst⁻¹ (In x) (g .at-conj φ ψ) (in-append-map (f (cp φ)) (f φ) (gathered-cp φ x) (gathered-cp ψ x) (join-gathered true (conj-view (cp φ) (cp ψ)) x i))
-  gathered-cp (disj φ ψ) x i = subst⁻¹ (In x) (g .at-disj φ ψ) (in-append-map (f (cp φ)) (f φ) (gathered-cp φ x) (gathered-cp ψ x) (join-gathered false (disj-view (cp φ) (cp ψ)) x i))
+  gathered-cp (conj φ ψ) x i = subst⁻¹ (In x) (g .at-conj φ ψ) (in-append-map (f (cp φ)) (f φ) (gathered-cp φ x) (gathered-cp ψ x) (join-gathered true (join-view true (cp φ) (cp ψ)) x i))
+  gathered-cp (disj φ ψ) x i = subst⁻¹ (In x) (g .at-disj φ ψ) (in-append-map (f (cp φ)) (f φ) (gathered-cp φ x) (gathered-cp ψ x) (join-gathered false (join-view false (cp φ) (cp ψ)) x i))
   gathered-cp (exists z φ) x i = g .at-exists z (cp φ) φ (gathered-cp φ) x (exists-gathered z (exists-view z (cp φ)) x i)
 
 -- An equality of a variable with itself becomes true, and any other stays.
@@ -262,9 +277,9 @@ nocp-cp (truth b) n = absurd n
 nocp-cp (rel r ts) n = refl
 nocp-cp (eq x (con p)) n = refl
 nocp-cp (eq x (var y)) n = cond-is (truth true) (eq x (var y)) (reflects-false (reflects-eqb x y) (λ e. n (ap var (sym e))))
-nocp-cp (neg φ) n = ap cp-neg (nocp-cp φ n) ∙ cp-neg-other (nocp-no-truth φ n)
-nocp-cp (conj φ ψ) n = (λ i. cp-conj (nocp-cp φ (n .0) i) (nocp-cp ψ (n .1) i)) ∙ cp-conj-neither (nocp-no-truth φ (n .0)) (nocp-no-truth ψ (n .1))
-nocp-cp (disj φ ψ) n = (λ i. cp-disj (nocp-cp φ (n .0) i) (nocp-cp ψ (n .1) i)) ∙ cp-disj-neither (nocp-no-truth φ (n .0)) (nocp-no-truth ψ (n .1))
+nocp-cp (neg φ) n = ap cp-neg (nocp-cp φ n) ∙ cp-neg-other φ (nocp-no-truth φ n)
+nocp-cp (conj φ ψ) n = (λ i. cp-conj (nocp-cp φ (n .0) i) (nocp-cp ψ (n .1) i)) ∙ join-neither true φ ψ (nocp-no-truth φ (n .0)) (nocp-no-truth ψ (n .1))
+nocp-cp (disj φ ψ) n = (λ i. cp-disj (nocp-cp φ (n .0) i) (nocp-cp ψ (n .1) i)) ∙ join-neither false φ ψ (nocp-no-truth φ (n .0)) (nocp-no-truth ψ (n .1))
 nocp-cp (exists z φ) n = ap (exists-free z) (nocp-cp φ (n .1)) ∙ exists-kept z φ (n .0)
 
 -- The number of a term.
@@ -319,8 +334,8 @@ propagated-cp (eq x (var y)) = go (reflects-eqb x y)
     go (holds e) = inr tt
     go (fails n) = inl (λ e. n (sym (ap number e)))
 propagated-cp (neg φ) = neg-propagated (neg-view (cp φ)) (propagated-cp φ)
-propagated-cp (conj φ ψ) = join-propagated true (conj-view (cp φ) (cp ψ)) (propagated-cp φ) (propagated-cp ψ)
-propagated-cp (disj φ ψ) = join-propagated false (disj-view (cp φ) (cp ψ)) (propagated-cp φ) (propagated-cp ψ)
+propagated-cp (conj φ ψ) = join-propagated true (join-view true (cp φ) (cp ψ)) (propagated-cp φ) (propagated-cp ψ)
+propagated-cp (disj φ ψ) = join-propagated false (join-view false (cp φ) (cp ψ)) (propagated-cp φ) (propagated-cp ψ)
 propagated-cp (exists z φ) = exists-propagated z (exists-view z (cp φ)) (propagated-cp φ)
 
 -- 000: cp_idem.

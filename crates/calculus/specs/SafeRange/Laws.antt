@@ -1,7 +1,7 @@
 -- Laws of safe-range: propagation keeps generation, the range of the bound variables and safe-range itself (000: gen_Gen_cp, rrb_cp, sr_cp).
 -- Each clause goes by the view of a clause of cp; rrb, a claim about all nodes, is first taken apart by the shape of the formula.
 use Prim.Native.Nat.{ℕ, _+_}
-use mathlib.Core.Path.{_≡_, refl, sym, subst⁻¹}
+use mathlib.Core.Path.{_≡_, refl, sym, ap, subst, subst⁻¹, _∙_}
 use mathlib.Core.Logic.{_↔_, ⊎-elim, _≢_}
 use mathlib.Core.Bool.{Bool, true, false, not, cond}
 use mathlib.Core.List.{List, [], _∷_, _++_, map}
@@ -10,8 +10,8 @@ use Rattle.calculus.specs.Sets.{here}
 use Rattle.calculus.specs.Reflects.{Reflects, holds, fails, reflects-eqb}
 use Rattle.calculus.specs.Formula.{Term, var, con, Fmla, truth, rel, eq, neg, conj, disj, exists, size, Node, node, nodes}
 use Rattle.calculus.specs.Formula.Laws.{Has, has-left, has-right, from-one, from-append, joined, node-shift}
-use Rattle.calculus.specs.Propagation.{exists-free, is-truth, cp-eq, cp-neg, cp-conj, cp-disj, cp}
-use Rattle.calculus.specs.Propagation.Laws.{TruthView, a-truth, no-truth, truth-view, NegView, neg-truth, neg-other, join, JoinView, left-unit, left-zero, right-unit, right-zero, neither, ExistsView, kept, dropped, cp-neg-other, cp-conj-neither, neg-view, conj-view, disj-view, exists-view, fv-cp}
+use Rattle.calculus.specs.Propagation.{exists-free, is-truth, cp-eq, cp-neg, cp-conj, cp}
+use Rattle.calculus.specs.Propagation.Laws.{TruthView, a-truth, no-truth, truth-view, NegView, neg-truth, neg-other, join, JoinView, left-unit, left-zero, right-unit, right-zero, neither, ExistsView, kept, dropped, cp-neg-other, cp-join, join-unit-left, join-zero-left, join-unit-right, join-zero-right, join-neither, neg-view, join-view, exists-view, fv-cp}
 use Rattle.calculus.specs.Substitution.{subst-for}
 use Rattle.calculus.specs.Generation.{ap-rel, ap-eq, Gen, gen-false, gen-atom, gen-neg-neg, gen-neg-disj, gen-neg-conj, gen-disj, gen-conj-left, gen-conj-right, gen-conj-eq, gen-conj-eq′, gen-exists, Generated}
 use Rattle.calculus.specs.Generation.Laws.{origin}
@@ -28,7 +28,14 @@ in-false = ([], gen-false)
 
 -- What holds of the not of a formula that is no truth value holds of its propagated not.
 at-cp-neg : (P : Fmla → Type 0) (φ : Fmla) → is-truth φ ≡ false → P (neg φ) → P (cp-neg φ)
-at-cp-neg P φ e p = subst⁻¹ P (cp-neg-other e) p
+at-cp-neg P φ e p = subst⁻¹ P (cp-neg-other φ e) p
+
+neg-no-truth : (φ : Fmla) → is-truth φ ≡ false → is-truth (cp-neg φ) ≡ false
+neg-no-truth φ e = ap is-truth (cp-neg-other φ e)
+
+join-no-truth : (u : Bool) (φ ψ : Fmla) → is-truth (join u φ ψ) ≡ false
+join-no-truth true φ ψ = refl
+join-no-truth false φ ψ = refl
 
 module _ {x : ℕ} where
   neg-neg-generated : (φ : Fmla) → Generated x φ → Generated x (cp-neg (cp-neg φ))
@@ -40,25 +47,18 @@ module _ {x : ℕ} where
       go (no-truth {φ} e) g = at-cp-neg (λ α. Generated x (cp-neg α)) φ e (g .0, gen-neg-neg (g .1))
 
   -- De Morgan's laws, which are two rules of gen: a truth value among the sides goes the same way on either side.
-  neg-disj-generated : {φ ψ χ : Fmla} → JoinView false φ ψ χ → Generated x (cp-conj (cp-neg φ) (cp-neg ψ)) → Generated x (cp-neg χ)
-  neg-disj-generated left-unit = λ g. g
-  neg-disj-generated left-zero = λ g. g
-  neg-disj-generated (right-unit {φ} e) = at-cp-neg (λ α. Generated x (cp-conj α (truth true)) → Generated x α) φ e (λ g. g)
-  neg-disj-generated (right-zero {φ} e) = at-cp-neg (λ α. Generated x (cp-conj α (truth false)) → Generated x (truth false)) φ e (λ g. g)
-  neg-disj-generated (neither {φ} {ψ} e f) =
-      at-cp-neg (λ α. Generated x (cp-conj α (cp-neg ψ)) → Generated x (neg (disj φ ψ))) φ e
-      (at-cp-neg (λ β. Generated x (cp-conj (neg φ) β) → Generated x (neg (disj φ ψ))) ψ f
-      (λ g. (g .0, gen-neg-disj (g .1))))
+  gen-neg-join : (u : Bool) (φ ψ : Fmla) → Generated x (join (not u) (neg φ) (neg ψ)) → Generated x (neg (join u φ ψ))
+  gen-neg-join true φ ψ g = (g .0, gen-neg-conj (g .1))
+  gen-neg-join false φ ψ g = (g .0, gen-neg-disj (g .1))
 
-  neg-conj-generated : {φ ψ χ : Fmla} → JoinView true φ ψ χ → Generated x (cp-disj (cp-neg φ) (cp-neg ψ)) → Generated x (cp-neg χ)
-  neg-conj-generated left-unit = λ g. g
-  neg-conj-generated left-zero = λ g. g
-  neg-conj-generated (right-unit {φ} e) = at-cp-neg (λ α. Generated x (cp-disj α (truth false)) → Generated x α) φ e (λ g. g)
-  neg-conj-generated (right-zero {φ} e) = at-cp-neg (λ α. Generated x (cp-disj α (truth true)) → Generated x (truth true)) φ e (λ g. g)
-  neg-conj-generated (neither {φ} {ψ} e f) =
-      at-cp-neg (λ α. Generated x (cp-disj α (cp-neg ψ)) → Generated x (neg (conj φ ψ))) φ e
-      (at-cp-neg (λ β. Generated x (cp-disj (neg φ) β) → Generated x (neg (conj φ ψ))) ψ f
-      (λ g. (g .0, gen-neg-conj (g .1))))
+  neg-join-generated : (u : Bool) {φ ψ χ : Fmla} → JoinView u φ ψ χ → Generated x (cp-join (not u) (cp-neg φ) (cp-neg ψ)) → Generated x (cp-neg χ)
+  neg-join-generated u (left-unit {ψ}) g = subst (Generated x) (join-unit-left (not u) (cp-neg ψ)) g
+  neg-join-generated u (left-zero {ψ}) g = subst (Generated x) (join-zero-left (not u) (cp-neg ψ)) g
+  neg-join-generated u (right-unit {φ} e) g = subst (Generated x) (join-unit-right (not u) (cp-neg φ) (neg-no-truth φ e)) g
+  neg-join-generated u (right-zero {φ} e) g = subst (Generated x) (join-zero-right (not u) (cp-neg φ) (neg-no-truth φ e)) g
+  neg-join-generated u (neither {φ} {ψ} e f) g =
+      at-cp-neg (Generated x) (join u φ ψ) (join-no-truth u φ ψ)
+      (gen-neg-join u φ ψ (subst (Generated x) ((λ i. cp-join (not u) (cp-neg-other φ e i) (cp-neg-other ψ f i)) ∙ join-neither (not u) (neg φ) (neg ψ) refl refl) g))
 
   disj-generated : {φ ψ χ : Fmla} → JoinView false φ ψ χ → Generated x φ → Generated x ψ → Generated x χ
   disj-generated left-unit g h = h
@@ -92,11 +92,11 @@ module _ {x : ℕ} where
       go : {φ : Fmla} → TruthView φ → Generated y φ → Generated x (cp-conj φ χ)
       go (a-truth true) g = absurd (not-in-true g)
       go (a-truth false) g = in-false
-      go (no-truth {φ} e) g = subst⁻¹ (Generated x) (cp-conj-neither e f) (rule φ g)
+      go (no-truth {φ} e) g = subst⁻¹ (Generated x) (join-neither true φ χ e f) (rule φ g)
 
 -- An equality of a variable with itself becomes true, and leaves the other side, which generates that variable.
 conj-self-generated : {x y : ℕ} (φ : Fmla) → x ≡ y → Generated y φ → Generated x (cp-conj φ (truth true))
-conj-self-generated φ e g = conj-left-generated (conj-view φ (truth true)) (subst⁻¹ (λ u. Generated u φ) e g)
+conj-self-generated φ e g = conj-left-generated (join-view true φ (truth true)) (subst⁻¹ (λ u. Generated u φ) e g)
 
 conj-eq-generated : (x y : ℕ) (φ : Fmla) → Generated y φ → Generated x (cp-conj φ (cp-eq x (var y)))
 conj-eq-generated x y φ g = go (reflects-eqb x y)
@@ -118,11 +118,11 @@ generated-cp gen-false = in-false
 generated-cp (gen-atom (ap-rel {r} {ts}) i) = (rel r ts ∷ [], gen-atom ap-rel i)
 generated-cp (gen-atom (ap-eq {x = y} {p}) i) = (eq y (con p) ∷ [], gen-atom ap-eq i)
 generated-cp (gen-neg-neg {φ = φ} d) = neg-neg-generated (cp φ) (generated-cp d)
-generated-cp (gen-neg-disj {φ = φ} {ψ} d) = neg-disj-generated (disj-view (cp φ) (cp ψ)) (generated-cp d)
-generated-cp (gen-neg-conj {φ = φ} {ψ} d) = neg-conj-generated (conj-view (cp φ) (cp ψ)) (generated-cp d)
-generated-cp (gen-disj {φ = φ} {ψ} d e) = disj-generated (disj-view (cp φ) (cp ψ)) (generated-cp d) (generated-cp e)
-generated-cp (gen-conj-left {φ = φ} {ψ} d) = conj-left-generated (conj-view (cp φ) (cp ψ)) (generated-cp d)
-generated-cp (gen-conj-right {φ = φ} {ψ} d) = conj-right-generated (conj-view (cp φ) (cp ψ)) (generated-cp d)
+generated-cp (gen-neg-disj {φ = φ} {ψ} d) = neg-join-generated false (join-view false (cp φ) (cp ψ)) (generated-cp d)
+generated-cp (gen-neg-conj {φ = φ} {ψ} d) = neg-join-generated true (join-view true (cp φ) (cp ψ)) (generated-cp d)
+generated-cp (gen-disj {φ = φ} {ψ} d e) = disj-generated (join-view false (cp φ) (cp ψ)) (generated-cp d) (generated-cp e)
+generated-cp (gen-conj-left {φ = φ} {ψ} d) = conj-left-generated (join-view true (cp φ) (cp ψ)) (generated-cp d)
+generated-cp (gen-conj-right {φ = φ} {ψ} d) = conj-right-generated (join-view true (cp φ) (cp ψ)) (generated-cp d)
 generated-cp (gen-conj-eq {x} {y} {φ} d) = conj-eq-generated x y (cp φ) (generated-cp d)
 generated-cp (gen-conj-eq′ {x} {y} {φ} d) = conj-eq′-generated x y (cp φ) (generated-cp d)
 generated-cp (gen-exists {y = y} {φ} n d) = exists-generated (exists-view y (cp φ)) n (generated-cp d)
@@ -220,8 +220,8 @@ rrb-cp (truth b) p = p
 rrb-cp (rel r ts) p = p
 rrb-cp (eq x t) p = eq-rrb x t
 rrb-cp (neg φ) p = neg-rrb (neg-view (cp φ)) (rrb-cp φ (rrb-neg φ .0 p))
-rrb-cp (conj φ ψ) p = let q = rrb-join true φ ψ .0 p in join-rrb true (conj-view (cp φ) (cp ψ)) (rrb-cp φ (q .0), rrb-cp ψ (q .1))
-rrb-cp (disj φ ψ) p = let q = rrb-join false φ ψ .0 p in join-rrb false (disj-view (cp φ) (cp ψ)) (rrb-cp φ (q .0), rrb-cp ψ (q .1))
+rrb-cp (conj φ ψ) p = let q = rrb-join true φ ψ .0 p in join-rrb true (join-view true (cp φ) (cp ψ)) (rrb-cp φ (q .0), rrb-cp ψ (q .1))
+rrb-cp (disj φ ψ) p = let q = rrb-join false φ ψ .0 p in join-rrb false (join-view false (cp φ) (cp ψ)) (rrb-cp φ (q .0), rrb-cp ψ (q .1))
 rrb-cp (exists z φ) p = let q = rrb-exists z φ .0 p in exists-rrb (exists-view z (cp φ)) (generated-cp (q .0 .1), rrb-cp φ (q .1))
 
 -- ---- 000's safe-range, document 01's, and 000's of the form
