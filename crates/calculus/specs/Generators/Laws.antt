@@ -401,6 +401,7 @@ module _ (pool : Pool) (D : Database) where
   root : (φ : Fmla) (n p : ℕ) (χ : Fmla) → In (node p χ) (node n φ ∷ []) → known pool D χ ⊆ known pool D φ
   root φ n p χ i v j = subst (λ u. In v (known pool D u)) (ap formula-of (in-one i)) j
 
+  -- What a node of an and or an or with the children φ and ψ knows, given what the nodes of each side know.
   inner : (φ ψ χ : Fmla) (k n p : ℕ) (ω : Fmla) → known pool D χ ≡ known pool D (conj φ ψ) → (In (node p ω) (nodes φ n) → known pool D ω ⊆ known pool D φ) → (In (node p ω) (nodes ψ (n + size φ)) → known pool D ω ⊆ known pool D ψ) → In (node p ω) (nodes φ n ++ nodes ψ (n + size φ) ++ (node k χ ∷ [])) → known pool D ω ⊆ known pool D χ
   inner φ ψ χ k n p ω e f g i =
       ⊎-elim

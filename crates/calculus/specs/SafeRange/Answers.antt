@@ -10,7 +10,8 @@ use Rattle.calculus.specs.Sets.{In, here, _⊆_}
 use Rattle.calculus.specs.Sets.Laws.{in-nil, in-one, in-select, from-select, in-union, from-union, in-cond}
 use Rattle.calculus.specs.Reflects.{Reflects, holds, fails, reflects, reflected, reflects-false, reflects-map, reflects-and}
 use Rattle.calculus.specs.Formula.{Fmla, truth, rel, eq, neg, conj, disj, exists, fv, Node, node, nodes}
-use Rattle.calculus.specs.Satisfaction.{Pool, Database, Sat, known}
+use Rattle.calculus.specs.Satisfaction.{Pool, Database, Sat, Known, known}
+use Rattle.calculus.specs.Satisfaction.Laws.{known-means}
 use Rattle.calculus.specs.Propagation.{cp}
 use Rattle.calculus.specs.Propagation.Laws.{cp-sat, known-cp}
 use Rattle.calculus.specs.Generation.{Generated}
@@ -22,7 +23,7 @@ use Rattle.calculus.specs.Order.Laws.{ltb-order, sort-members, sort-asce
 use Rattle.calculus.specs.Rows.{Row, row-env, Answer, Endless, endless, listed}
 use Rattle.calculus.specs.Rows.Laws.{row-env-column}
 use Rattle.calculus.specs.Evaluation.{rows-over, answers}
-use Rattle.calculus.specs.Evaluation.Laws.{endless-iff, endless-reflects}
+use Rattle.calculus.specs.Evaluation.Laws.{endless-exactly, endless-reflects}
 
 -- ---- columns
 
@@ -101,9 +102,9 @@ safe-reflects φ = reflects-map sound complete (reflects-and (reflects-empty (ve
 -- ---- rows of a safe-range query
 
 module _ (pool : Pool) (D : Database) (φ : Fmla) (s : SafeRange φ) where
-  -- Every value of every row is in a record of a relation that the query names, or is a constant of it (`known-means`).
-  pub safe-values : (w : Row) → Answer pool D φ (columns φ) w → (v : ℕ) → In v w → In v (known pool D φ)
-  safe-values w a v i = subst (λ u. In u (known pool D φ)) (col .2) (known-cp pool D φ (row-env (columns φ) w c) (generated-known pool D c (cp φ) generated (row-env (columns φ) w) holds-form))
+  -- Every value of every row is in a record of a relation that the query names, or is a constant of it.
+  pub safe-values : (w : Row) → Answer pool D φ (columns φ) w → (v : ℕ) → In v w → Known pool D φ v
+  safe-values w a v i = subst (Known pool D φ) (col .2) (known-means pool D φ (row-env (columns φ) w c) .0 (known-cp pool D φ (row-env (columns φ) w c) (generated-known pool D c (cp φ) generated (row-env (columns φ) w) holds-form)))
     where
       col : (c : ℕ) × In c (columns φ) × (row-env (columns φ) w c ≡ v)
       col = row-env-column (columns φ) w (columns-ascending φ) (a .0) v i
@@ -119,7 +120,7 @@ module _ (pool : Pool) (D : Database) (φ : Fmla) (s : SafeRange φ) where
 
   -- It is never endless.
   pub safe-not-endless : ¬ Endless pool D φ (columns φ)
-  safe-not-endless e = let h = endless-iff pool D (known pool D φ) φ (columns φ) (λ v i. i) (fv-columns φ) .0 e in h .2 .2 (safe-values (h .0) (h .1) (h .2 .0) (h .2 .1))
+  safe-not-endless e = let h = endless-exactly pool D φ (columns φ) (fv-columns φ) .0 e in h .2 .2 (safe-values (h .0) (h .1) (h .2 .0) (h .2 .1))
 
   -- So its rows are listed: all that satisfy it over all whole numbers and no other, by `rows-members`.
   pub safe-listed : answers pool D φ (columns φ) ≡ listed (rows-over pool D (known pool D φ) φ (columns φ))
