@@ -11,8 +11,8 @@ use lib.ListN.{length}
 use lib.Dec.{T, ltb}
 use Rattle.calculus.specs.Sets.{In, here, there, _⊆_, select}
 use Rattle.calculus.specs.Sets.Laws.{in-nil, in-rest, subset-cons, same-cons, subset-swap, in-select, from-select}
-use Rattle.calculus.specs.Reflects.{Reflects, holds, fails, reflected, reflects, reflects-T, reflects-ltb}
-use Rattle.calculus.specs.Order.{StrictOrder, Ascending, nothing, before, insert, sort}
+use Rattle.calculus.specs.Reflects.{Reflects, holds, fails, reflected, reflects, reflects-T, reflects-map, reflects-and, reflects-or, reflects-eqb, reflects-ltb}
+use Rattle.calculus.specs.Order.{StrictOrder, Ascending, nothing, before, insert, sort, lexicographic, leads, is-ascending}
 
 pub ltb-order : StrictOrder ltb
 ltb-order = record { irreflexive = irreflexive; transitive = transitive; total = total }
@@ -28,6 +28,52 @@ ltb-order = record { irreflexive = irreflexive; transitive = transitive; total =
 
     total : (x y : ℕ) → ¬ T (ltb x y) → ¬ T (ltb y x) → x ≡ y
     total x y s t = between x y (λ h. s (reflects (reflects-ltb x y) h)) (λ h. t (reflects (reflects-ltb y x) h))
+
+-- ---- the order of number lists
+
+-- What it is for v ∷ vs to be below w ∷ ws.
+abbrev pub Before : ℕ → List ℕ → ℕ → List ℕ → Type 0
+Before v vs w ws = (v < w) ⊎ ((v ≡ w) × T (lexicographic vs ws))
+
+pub reflects-lexicographic : (v : ℕ) (vs : List ℕ) (w : ℕ) (ws : List ℕ) → Reflects (Before v vs w ws) (lexicographic (v ∷ vs) (w ∷ ws))
+reflects-lexicographic v vs w ws = reflects-or (reflects-ltb v w) (reflects-and (reflects-eqb v w) (reflects-T (lexicographic vs ws)))
+
+pub lexicographic-irreflexive : (vs : List ℕ) → ¬ T (lexicographic vs vs)
+lexicographic-irreflexive [] t = t
+lexicographic-irreflexive (v ∷ vs) t = go (lexicographic-irreflexive vs) (reflected (reflects-lexicographic v vs v vs) t)
+  where
+    go : ¬ T (lexicographic vs vs) → ¬ Before v vs v vs
+    go r (inl h) = lt-irrefl v h
+    go r (inr h) = r (h .1)
+
+pub lexicographic-transitive : (us vs ws : List ℕ) → T (lexicographic us vs) → T (lexicographic vs ws) → T (lexicographic us ws)
+lexicographic-transitive [] [] ws s t = t
+lexicographic-transitive [] (v ∷ vs) [] s t = t
+lexicographic-transitive [] (v ∷ vs) (w ∷ ws) s t = tt
+lexicographic-transitive (u ∷ us) [] ws s t = absurd s
+lexicographic-transitive (u ∷ us) (v ∷ vs) [] s t = t
+lexicographic-transitive (u ∷ us) (v ∷ vs) (w ∷ ws) s t = reflects (reflects-lexicographic u us w ws) (go (lexicographic-transitive us vs ws) (reflected (reflects-lexicographic u us v vs) s) (reflected (reflects-lexicographic v vs w ws) t))
+  where
+    go : (T (lexicographic us vs) → T (lexicographic vs ws) → T (lexicographic us ws)) → Before u us v vs → Before v vs w ws → Before u us w ws
+    go r (inl h) (inl k) = inl (lt-trans h k)
+    go r (inl h) (inr k) = inl (subst (λ n. u < n) (k .0) h)
+    go r (inr h) (inl k) = inl (subst⁻¹ (λ n. n < w) (h .0) k)
+    go r (inr h) (inr k) = inr (h .0 ∙ k .0, r (h .1) (k .1))
+
+pub lexicographic-total : (vs ws : List ℕ) → ¬ T (lexicographic vs ws) → ¬ T (lexicographic ws vs) → vs ≡ ws
+lexicographic-total [] [] s t = refl
+lexicographic-total [] (w ∷ ws) s t = absurd (s tt)
+lexicographic-total (v ∷ vs) [] s t = absurd (t tt)
+lexicographic-total (v ∷ vs) (w ∷ ws) s t = go (lexicographic-total vs ws) (λ h. s (reflects (reflects-lexicographic v vs w ws) h)) (λ h. t (reflects (reflects-lexicographic w ws v vs) h))
+  where
+    heads : ¬ Before v vs w ws → ¬ Before w ws v vs → v ≡ w
+    heads f g = ltb-order .total v w (λ h. f (inl (reflected (reflects-ltb v w) h))) (λ h. g (inl (reflected (reflects-ltb w v) h)))
+
+    go : (¬ T (lexicographic vs ws) → ¬ T (lexicographic ws vs) → vs ≡ ws) → ¬ Before v vs w ws → ¬ Before w ws v vs → v ∷ vs ≡ w ∷ ws
+    go r f g = let e = heads f g in let q = r (λ h. f (inr (e, h))) (λ h. g (inr (sym e, h))) in λ i. e i ∷ q i
+
+pub lexicographic-order : StrictOrder lexicographic
+lexicographic-order = record { irreflexive = lexicographic-irreflexive; transitive = lexicographic-transitive; total = lexicographic-total }
 
 -- ---- insert and sort
 
@@ -199,3 +245,28 @@ distinct-change p q {xs} {ys} d e in-ys in-xs = omega (arith, select-length p xs
 
     shared : length (select p xs) ≡ length (select q ys)
     shared = distinct-length (distinct-select p d) (distinct-select q e) there-too here-too
+
+-- ---- the test for ascending
+
+module _ {A : Type 0} (below : A → A → Bool) (order : StrictOrder below) where
+  leads-all : (x : A) (ys : List A) → T (leads below x ys) → Ascending below ys → (z : A) → In z ys → T (below x z)
+  leads-all x [] t a z i = absurd (in-nil i)
+  leads-all x (y ∷ ys) t a z i = go (ascending-least below a i)
+    where
+      go : (z ≡ y) ⊎ T (below y z) → T (below x z)
+      go (inl e) = subst⁻¹ (λ u. T (below x u)) e t
+      go (inr s) = order .transitive x y z t s
+
+  all-leads : (x : A) (ys : List A) → ((z : A) → In z ys → T (below x z)) → T (leads below x ys)
+  all-leads x [] h = tt
+  all-leads x (y ∷ ys) h = h y (here refl)
+
+  pub reflects-ascending : (xs : List A) → Reflects (Ascending below xs) (is-ascending below xs)
+  reflects-ascending [] = holds nothing
+  reflects-ascending (x ∷ xs) = reflects-map make unmake (reflects-and (reflects-T (leads below x xs)) (reflects-ascending xs))
+    where
+      make : T (leads below x xs) × Ascending below xs → Ascending below (x ∷ xs)
+      make h = before (leads-all x xs (h .0) (h .1)) (h .1)
+
+      unmake : Ascending below (x ∷ xs) → T (leads below x xs) × Ascending below xs
+      unmake (before h a) = (all-leads x xs h, a)
