@@ -1,7 +1,7 @@
 -- Document 01's table of refusals, "When a call declines": checks run by number, and the first cause met is answered.
 -- Definitions only; the laws are in Causes/Laws.antt.
 use Prim.Native.Nat.{ℕ, zero, suc}
-use mathlib.Core.Bool.{Bool, cond}
+use mathlib.Core.Bool.{Bool, true, false, cond}
 use mathlib.Core.List.{List, [], _∷_}
 use lib.Dec.{leb}
 use Rattle.calculus.specs.Sets.{all-of}
@@ -41,6 +41,11 @@ lowest faulty (suc n) = or-else (lowest faulty n) (cond (faulty n) (met n) clear
 -- No width is above 4: cause 1 is not met.
 abbrev pub widths-fit : List ℕ → Bool
 widths-fit ws = all-of (λ w. leb w 4) ws
+
+-- Whether the call was worked on.
+abbrev pub is-done : Answer → Bool
+is-done Done = true
+is-done (Refused n p) = false
 
 -- Document 01's number and place of an answer; 0 and 0 where the call was worked on.
 abbrev pub number : Answer → ℕ

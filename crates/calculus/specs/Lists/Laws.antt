@@ -1,14 +1,16 @@
 -- Laws of lists made of a function's values.
-use Prim.Native.Nat.{ℕ, zero, suc, _+_, _<_, _≤_, _-_}
+use Prim.Native.Nat.{ℕ, zero, suc, _+_, _<_, _≤_, _-_, suc-le-suc}
 use native.Mathlib.Omega.{arith}
 use mathlib.Core.Path.{_≡_, refl, ap, _∙_}
 use native.Mathlib.Numerals.{add-one}
-use mathlib.Core.Bool.{Bool, _&&_, _||_}
-use mathlib.Core.List.{List}
-use lib.ListN.{length, getD, drop, replicate, length-append, length-replicate}
-use lib.Seq.{drop-cons}
-use Rattle.calculus.specs.Sets.{all-of, any-of}
+use mathlib.Core.Bool.{Bool, _&&_, _||_, true, false, cond}
+use mathlib.Core.List.{List, [], _∷_, _++_}
+use lib.ListN.{length, getD, drop, replicate, length-append, length-replicate, take}
+use lib.Seq.{drop-cons, take-append-add}
+use Rattle.calculus.specs.Sets.{all-of, any-of, In, here, there, select}
 use Rattle.calculus.specs.Lists.{tabulate, padded}
+use lib.Dec.{T}
+use Rattle.calculus.specs.Reflects.{Reflects, holds, reflects-map, reflects-and}
 
 module _ {A : Type 0} where
   pub length-tabulate : (f : ℕ → A) (n : ℕ) → length (tabulate f n) ≡ n
@@ -31,3 +33,65 @@ module _ {A : Type 0} (p : A → Bool) (xs : List A) (i : ℕ) (d : A) (h : i < 
 
   pub any-drop : any-of p (drop i xs) ≡ p (getD xs i d) || any-of p (drop (i + 1) xs)
   any-drop = rw (add-one, drop-cons xs i d)
+
+-- ---- copies of one element
+
+-- A test for z, passed by every element: the list is copies of z.
+pub reflects-replicate : {A : Type 0} (p : A → Bool) (z : A) → ((x : A) → Reflects (x ≡ z) (p x)) → (xs : List A) → Reflects (xs ≡ replicate (length xs) z) (all-of p xs)
+reflects-replicate p z r [] = holds refl
+reflects-replicate p z r (x ∷ xs) = reflects-map (λ h i. h .0 i ∷ h .1 i) (λ e. (cc, cc)) (reflects-and (r x) (reflects-replicate p z r xs))
+
+pub take-replicate : {A : Type 0} (m n : ℕ) (z : A) → m ≤ n → take m (replicate n z) ≡ replicate m z
+take-replicate zero n z h = refl
+take-replicate (suc m) zero z h = absurd (omega arith)
+take-replicate (suc m) (suc n) z h = ap (λ zs. z ∷ zs) (take-replicate m n z (omega arith))
+
+-- A list with enough copies of z after it, cut to n elements.
+pub take-padded : {A : Type 0} (n k : ℕ) (z : A) (xs : List A) → length xs ≤ n → n ≤ length xs + k → take n (xs ++ replicate k z) ≡ padded n z xs
+take-padded n k z xs h l =
+    let e : n ≡ length xs + (n - length xs) = omega arith in
+    ap (λ m. take m (xs ++ replicate k z)) e ∙ take-append-add xs (replicate k z) (n - length xs) ∙ ap (λ zs. xs ++ zs) (take-replicate (n - length xs) k z (omega arith))
+
+-- ---- select
+
+-- A test that every member passes selects all.
+pub select-all : {A : Type 0} (p : A → Bool) (xs : List A) → ((x : A) → In x xs → T (p x)) → select p xs ≡ xs
+select-all p [] h = refl
+select-all {A} p (x ∷ xs) h = go (p x) (h x (here refl)) (select-all p xs (λ y i. h y (there i)))
+  where
+    go : (b : Bool) → T b → select p xs ≡ xs → cond b (x ∷ select p xs) (select p xs) ≡ x ∷ xs
+    go true t e = ap (λ ys. x ∷ ys) e
+    go false t e = absurd t
+
+-- ---- the parts of a test
+
+pub or-fails : (a b : Bool) → a || b ≡ false → (a ≡ false) × (b ≡ false)
+or-fails true b e = (e, cc)
+or-fails false b e = (refl, e)
+
+pub and-holds : (a b : Bool) → T (a && b) → T a × T b
+and-holds true b t = (tt, t)
+and-holds false b t = absurd t
+
+module _ {A : Type 0} (p : A → Bool) where
+  -- A test that no member passes.
+  pub any-of-false : (xs : List A) → any-of p xs ≡ false → (x : A) → In x xs → p x ≡ false
+  any-of-false (y ∷ xs) e x (here q) = rw q (or-fails (p y) (any-of p xs) e .0)
+  any-of-false (y ∷ xs) e x (there i) = any-of-false xs (or-fails (p y) (any-of p xs) e .1) x i
+
+  -- A test that every element passes, and what stands for a missing one.
+  pub all-of-getD : (xs : List A) (d : A) → T (all-of p xs) → T (p d) → (i : ℕ) → T (p (getD xs i d))
+  all-of-getD [] d t s i = s
+  all-of-getD (x ∷ xs) d t s zero = and-holds (p x) (all-of p xs) t .0
+  all-of-getD (x ∷ xs) d t s (suc i) = all-of-getD xs d (and-holds (p x) (all-of p xs) t .1) s i
+
+-- ---- the places of members
+
+module _ {A : Type 0} where
+  pub from-tabulate : (f : ℕ → A) (n : ℕ) {x : A} → In x (tabulate f n) → (i : ℕ) × (i < n) × (x ≡ f i)
+  from-tabulate f (suc n) (here e) = (0, omega arith, e)
+  from-tabulate f (suc n) (there i) = let r = from-tabulate (λ j. f (suc j)) n i in (suc (r .0), suc-le-suc (r .1), r .2)
+
+  pub place-of : (d : A) {x : A} (xs : List A) → In x xs → (i : ℕ) × (i < length xs) × (x ≡ getD xs i d)
+  place-of d (y ∷ xs) (here e) = (0, omega arith, e)
+  place-of d (y ∷ xs) (there i) = let r = place-of d xs i in (suc (r .0), suc-le-suc (r .1), r .2)

@@ -8,7 +8,7 @@ use mathlib.Core.Logic.{_↔_, Iff·rfl, Iff·trans, _⊎_, inl, inr, _≢_}
 use mathlib.Core.Bool.{Bool, true, false, not, cond}
 use mathlib.Core.List.{List, [], _∷_}
 use lib.ListN.{length}
-use lib.Dec.{T, ltb}
+use lib.Dec.{T, leb, ltb, leb→le, le→leb}
 use Rattle.calculus.specs.Sets.{In, here, there, _⊆_, select}
 use Rattle.calculus.specs.Sets.Laws.{in-nil, in-rest, subset-cons, same-cons, subset-swap, in-select, from-select}
 use Rattle.calculus.specs.Reflects.{Reflects, holds, fails, reflected, reflects, reflects-T, reflects-map, reflects-and, reflects-or, reflects-eqb, reflects-ltb}
@@ -270,3 +270,28 @@ module _ {A : Type 0} (below : A → A → Bool) (order : StrictOrder below) whe
 
       unmake : Ascending below (x ∷ xs) → T (leads below x xs) × Ascending below xs
       unmake (before h a) = (all-leads x xs h, a)
+
+-- ---- an element put into its place
+
+module _ {A : Type 0} (below : A → A → Bool) where
+  pub length-insert-le : (x : A) (ys : List A) → length (insert below x ys) ≤ suc (length ys)
+  length-insert-le x [] = omega arith
+  length-insert-le x (y ∷ ys) = go (below x y) (below y x) (length-insert-le x ys)
+    where
+      go : (b c : Bool) → length (insert below x ys) ≤ suc (length ys) → length (cond b (x ∷ y ∷ ys) (cond c (y ∷ insert below x ys) (y ∷ ys))) ≤ suc (suc (length ys))
+      go true c h = omega arith
+      go false true h = omega arith
+      go false false h = omega arith
+
+  -- A member is not put in again.
+  pub insert-member : StrictOrder below → (x : A) {ys : List A} → Ascending below ys → In x ys → insert below x ys ≡ ys
+  insert-member order x {ys} a i = ascending-unique below order (insert-ascending below order x a) a (λ z. (λ j. known z (from-insert below x ys z j), λ j. in-insert below order x ys z (there j)))
+    where
+      known : (z : A) → In z (x ∷ ys) → In z ys
+      known z (here e) = subst⁻¹ (λ u. In u ys) e i
+      known z (there j) = j
+
+-- ---- the test for ≤
+
+pub reflects-leb : (m n : ℕ) → Reflects (m ≤ n) (leb m n)
+reflects-leb m n = reflects-map (leb→le m n) (le→leb m n) (reflects-T (leb m n))

@@ -3,10 +3,15 @@ use Prim.Native.Nat.{ℕ, zero, suc, _+_, _<_}
 use native.Mathlib.Numerals.{add-one}
 use native.Mathlib.Decide.{decLt}
 use native.Mathlib.Omega.{arith}
-use mathlib.Core.Path.{_≡_, refl, subst}
+use mathlib.Core.Path.{_≡_, refl, subst, ap, _∙_}
 use mathlib.Core.Logic.{_⊎_, inl, inr}
-use mathlib.Core.Bool.{Bool, true, false, cond}
-use Rattle.causes.specs.Causes.{Finding, clear, met, or-else, lowest}
+use mathlib.Core.Bool.{Bool, true, false, cond, not}
+use Rattle.causes.specs.Causes.{Finding, clear, met, or-else, lowest, is-done, Check, check, first-cause, when}
+use lib.Dec.{T}
+use Rattle.calculus.specs.Reflects.{Reflects, holds, fails}
+use Rattle.causes.specs.declared.Answer.{Answer}
+use Rattle.causes.specs.declared.Answer.the-variants.{Done, Refused}
+use mathlib.Core.List.{List, [], _∷_}
 
 before-or-last : (i n : ℕ) → i < suc n → (i < n) ⊎ (n ≡ i)
 before-or-last i n h = go (decLt i n)
@@ -39,3 +44,45 @@ lowest-clear faulty (suc n) c i h = go (lowest faulty n) (faulty n) refl refl (�
     go clear false p q r e (inl l) = r p l
     go clear false p q r e (inr f) = subst (λ k. faulty k ≡ false) f q
     go (met k) b p q r e w = absurd (never e)
+
+pub reflects-done : (a : Answer) → Reflects (a ≡ Done) (is-done a)
+reflects-done Done = holds refl
+reflects-done (Refused n p) = fails (λ e. subst (λ a. T (not (is-done a))) e tt)
+
+-- The place that a search names is faulty, and no node below it is.
+pub lowest-least : (faulty : ℕ → Bool) (n i : ℕ) → lowest faulty n ≡ met i → (i < n) × (faulty i ≡ true) × ((j : ℕ) → j < i → faulty j ≡ false)
+lowest-least faulty zero i e = let z : _≡_ {A = ℕ} 0 1 = cc in absurd (omega arith)
+lowest-least faulty (suc n) i e = go (lowest faulty n) (faulty n) refl refl (λ p. lowest-least faulty n i p) e
+  where
+    Least : ℕ → Type 0
+    Least m = (i < m) × (faulty i ≡ true) × ((j : ℕ) → j < i → faulty j ≡ false)
+
+    same : (p : ℕ) → met p ≡ met i → p ≡ i
+    same p e = cc
+
+    here : n ≡ i → lowest faulty n ≡ clear → faulty n ≡ true → Least (suc n)
+    here f c t = (omega arith, subst (λ k. faulty k ≡ true) f t, λ j l. lowest-clear faulty n c j (omega arith))
+
+    go : (l : Finding) (b : Bool) → lowest faulty n ≡ l → faulty n ≡ b → (lowest faulty n ≡ met i → Least n) → or-else l (cond b (met n) clear) ≡ met i → Least (suc n)
+    go clear true p q r e = here (same n e) p q
+    go clear false p q r e = let z : _≡_ {A = ℕ} 0 1 = cc in absurd (omega arith)
+    go (met k) b p q r e = let h = r (p ∙ ap met (same k e)) in (omega arith, h .1, h .2)
+
+-- ---- an answer of Done
+
+-- Every check is clear.
+abbrev pub AllClear : List Check → Type 0
+AllClear [] = Unit {0}
+AllClear (check n f ∷ cs) = (f ≡ clear) × AllClear cs
+
+pub first-cause-done : (cs : List Check) → first-cause cs ≡ Done → AllClear cs
+first-cause-done [] e = tt
+first-cause-done (check n clear ∷ cs) e = (refl, first-cause-done cs e)
+first-cause-done (check n (met p) ∷ cs) e = absurd never
+  where
+    never : ⊥
+    never = let z : _≡_ {A = ℕ} 0 1 = cc in omega arith
+
+pub when-clear : (b : Bool) → when b ≡ clear → b ≡ false
+when-clear true e = cc
+when-clear false e = refl

@@ -1,0 +1,4 @@
+pub mod Records
+pub mod Store
+pub mod Change
+pub mod Fill

@@ -1,0 +1,78 @@
+-- The store: document 01, "Tables and records", and causes 1 and 2. Definitions only; the laws are in Store/Laws.antt.
+use Prim.Native.Nat.{ℕ, _+_, _*_}
+use mathlib.Core.Bool.{Bool, not, _&&_}
+use mathlib.Core.List.{List, [], _∷_, map}
+use lib.ListN.{length, getD, take, drop, set, replicate}
+use lib.Dec.{leb}
+use Rattle.calculus.specs.Sets.{all-of, union-of}
+use Rattle.calculus.specs.Lists.{tabulate, padded}
+use Rattle.calculus.specs.Order.{is-ascending}
+use Rattle.calculus.specs.Satisfaction.{Database}
+use Rattle.causes.specs.declared.Answer.{Answer}
+use Rattle.causes.specs.Causes.{check, first-cause, when, widths-fit}
+use Rattle.tables.specs.declared.Record.{Record}
+use Rattle.tables.specs.declared.Store.{Store}
+use Rattle.tables.specs.Records.{values-of, blank, record-below, is-blank, fits, fact-of}
+pub mod Laws
+pub mod Places
+
+-- The number of record places.
+abbrev pub capacity : ℕ
+capacity = 256
+
+-- The record at place i of the two arrays.
+abbrev pub record-at : List ℕ → List ℕ → ℕ → Record
+record-at rs vs i =
+    record {
+      relation = getD rs i 0;
+      first = getD vs (4 * i) 0;
+      second = getD vs (4 * i + 1) 0;
+      third = getD vs (4 * i + 2) 0;
+      fourth = getD vs (4 * i + 3) 0;
+    }
+
+-- Four values, from place a on.
+abbrev pub set-four : List ℕ → ℕ → ℕ → ℕ → ℕ → ℕ → List ℕ
+set-four vs a p q r s = set (set (set (set vs a p) (a + 1) q) (a + 2) r) (a + 3) s
+
+-- The values with those of r at place i.
+abbrev pub set-values : List ℕ → ℕ → Record → List ℕ
+set-values vs i r = set-four vs (4 * i) (r .first) (r .second) (r .third) (r .fourth)
+
+-- All record places, in order.
+unfoldable pub places : List ℕ → List ℕ → List Record
+places rs vs = tabulate (record-at rs vs) capacity
+
+abbrev pub places-of : Store → List Record
+places-of s = places (s .relations) (s .values)
+
+-- The records held, and the places past the count.
+abbrev pub held : Store → List Record
+held s = take (s .count) (places-of s)
+
+abbrev pub unused : Store → List Record
+unused s = drop (s .count) (places-of s)
+
+-- The store's meaning: the facts that its records state.
+abbrev pub facts : Store → Database
+facts s = map (fact-of (s .widths)) (held s)
+
+-- The layout: at most 256 records, of present relations and zero past their widths, strictly ascending; places past the count all zero.
+abbrev pub in-layout : Store → Bool
+in-layout s = leb (s .count) capacity && all-of (fits (s .widths)) (held s) && is-ascending record-below (held s) && all-of is-blank (unused s)
+
+-- Causes 1 and 2.
+abbrev pub judgement : Store → Answer
+judgement s = first-cause (check 1 (when (not (widths-fit (s .widths)))) ∷ check 2 (when (not (in-layout s))) ∷ [])
+
+-- The store of the given places, widths and count.
+abbrev pub of-places : List ℕ → List Record → ℕ → Store
+of-places ws ps n = record { widths = ws; relations = map (λ p. p .relation) ps; values = union-of values-of ps; count = n }
+
+-- The store that holds these records.
+abbrev pub store-of : List ℕ → List Record → Store
+store-of ws rs = of-places ws (padded capacity blank rs) (length rs)
+
+-- The store without relations and records.
+abbrev pub no-store : Store
+no-store = store-of (replicate 16 0) []

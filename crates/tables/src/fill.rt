@@ -1,0 +1,86 @@
+// A store filled from widths and a lent list of records, in any order: causes 1, 13 and 15. A repeat is kept once.
+use crate::Changed;
+use crate::Record;
+use crate::Store;
+use crate::change;
+use crate::layout;
+use causes::Answer;
+ghost use mathlib.Core.Path.{_≡_};
+ghost use Rattle.tables.specs.Fill.{beginning, collected, fill-reply};
+ghost use Rattle.tables.specs.Store.{no-store};
+
+// What a refused filling hands back: no relation, and no record.
+fn none() -> Store
+    ensures { λ s. ⌜ s ≡ no-store ⌝ }
+{
+    Store {
+        widths: [0u8; 16],
+        relations: [0u8; 256],
+        values: [0u32; 1024],
+        count: 0,
+    }
+}
+
+// A filling before its first record: cause 1.
+pub fn begin(widths: [u8; 16]) -> Changed
+    ensures { λ c. ⌜ c ≡ beginning widths ⌝ }
+{
+    if !causes::widths_are_right(widths) {
+        return Changed {
+            answer: Answer::Refused(1, 0),
+            store: none(),
+        };
+    }
+    let s = Store {
+        widths,
+        relations: [0u8; 256],
+        values: [0u32; 1024],
+        count: 0,
+    };
+    Changed {
+        answer: Answer::Done,
+        store: s,
+    }
+}
+
+// A filling with one record more: causes 13 and 15. One that is refused stays so.
+pub fn collect(f: Changed, r: Record) -> Changed
+    ensures { λ c. ⌜ c ≡ collected f r ⌝ }
+{
+    let s = f.store;
+    let answer = f.answer;
+    let count = s.count;
+    if let Answer::Refused(_, _) = answer {
+        return f;
+    }
+    if 256 < count {
+        return f;
+    }
+    let added = change::insert(s, r);
+    let reply = added.answer;
+    match reply {
+        Answer::Done => added,
+        Answer::Refused(number, _) => {
+            if number == 14 {
+                return f;
+            }
+            Changed {
+                answer: reply,
+                store: none(),
+            }
+        }
+    }
+}
+
+// The store of the records of a list.
+pub fn fill(widths: [u8; 16], records: &[Record]) -> Changed
+    ensures { λ c. ⌜ c ≡ fill-reply widths (now (records .entry)) ⌝ }
+{
+    let mut f = begin(widths);
+    let mut i = 0;
+    while i < records.len() {
+        f = collect(f, records[i]);
+        i += 1;
+    }
+    f
+}
