@@ -12,4 +12,3 @@ pub mod SafeRange
 pub mod Order
 pub mod Rows
 pub mod Evaluation
-pub mod Cases

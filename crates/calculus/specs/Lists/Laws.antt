@@ -1,16 +1,17 @@
--- Laws of lists made of a function's values.
+-- Laws of lists made of a function's values, and of tests of their elements.
 use Prim.Native.Nat.{ℕ, zero, suc, _+_, _<_, _≤_, _-_, suc-le-suc}
 use native.Mathlib.Omega.{arith}
-use mathlib.Core.Path.{_≡_, refl, ap, _∙_}
+use mathlib.Core.Path.{_≡_, refl, ap, _∙_, sym}
 use native.Mathlib.Numerals.{add-one}
-use mathlib.Core.Bool.{Bool, _&&_, _||_, true, false, cond}
+use mathlib.Core.Bool.{Bool, _&&_, _||_, true, false, cond, or-true}
 use mathlib.Core.List.{List, [], _∷_, _++_}
-use lib.ListN.{length, getD, drop, replicate, length-append, length-replicate, take}
-use lib.Seq.{drop-cons, take-append-add}
+use lib.ListN.{length, getD, drop, replicate, length-append, length-replicate, take, set}
+use lib.Seq.{drop-cons, take-append-add, ext-getD, set-at, append-snoc}
 use Rattle.calculus.specs.Sets.{all-of, any-of, In, here, there, select}
 use Rattle.calculus.specs.Lists.{tabulate, padded}
 use lib.Dec.{T}
 use Rattle.calculus.specs.Reflects.{Reflects, holds, reflects-map, reflects-and}
+use native.Mathlib.Nat.{sub-zero, zero-sub, suc-sub-suc}
 
 module _ {A : Type 0} where
   pub length-tabulate : (f : ℕ → A) (n : ℕ) → length (tabulate f n) ≡ n
@@ -95,3 +96,43 @@ module _ {A : Type 0} where
   pub place-of : (d : A) {x : A} (xs : List A) → In x xs → (i : ℕ) × (i < length xs) × (x ≡ getD xs i d)
   place-of d (y ∷ xs) (here e) = (0, omega arith, e)
   place-of d (y ∷ xs) (there i) = let r = place-of d xs i in (suc (r .0), suc-le-suc (r .1), r .2)
+
+-- ---- a list that is filled from the front, and one that is known by its elements
+
+module _ {A : Type 0} where
+  pub tabulate-next : (f : ℕ → A) (n : ℕ) → tabulate f (suc n) ≡ tabulate f n ++ (f n ∷ [])
+  tabulate-next f zero = refl
+  tabulate-next f (suc n) = ap {B = List A} (λ r. f zero ∷ r) (tabulate-next (λ i. f (suc i)) n)
+
+  pub tabulate-fill : (f : ℕ → A) (l : List A) (i : ℕ) (d : A) → i < length l → set (tabulate f i ++ drop i l) i (f i) ≡ tabulate f (i + 1) ++ drop (i + 1) l
+  tabulate-fill f l i d h = rw (add-one, drop-cons l i d) (set-at (tabulate f i) (getD l i d) (drop (suc i) l) (f i) i (length-tabulate f i) ∙ sym (ap (λ (r : List A). r ++ drop (suc i) l) (tabulate-next f i) ∙ append-snoc (tabulate f i) (f i) (drop (suc i) l)))
+
+  pub tabulate-of : (f : ℕ → A) (l : List A) (n : ℕ) (d : A) → length l ≡ n → ((i : ℕ) → i < n → getD l i d ≡ f i) → l ≡ tabulate f n
+  tabulate-of f l n d e h = ext-getD d l (tabulate f n) (e ∙ sym (length-tabulate f n)) (λ i b. let m : i < n = omega arith in h i m ∙ sym (getD-tabulate f n i d m))
+
+-- ---- an element that passes the test, among the first n or the others
+
+module _ {A : Type 0} (p : A → Bool) (d : A) where
+  pub any-take-at : (xs : List A) (n k : ℕ) → k < n → k < length xs → p (getD xs k d) ≡ true → any-of p (take n xs) ≡ true
+  any-take-at [] n k h l e = absurd (omega arith)
+  any-take-at (x ∷ xs) zero k h l e = absurd (omega arith)
+  any-take-at (x ∷ xs) (suc n) zero h l e = rw e
+  any-take-at (x ∷ xs) (suc n) (suc k) h l e = rw (any-take-at xs n k (omega arith) (omega arith) e) (or-true (p x))
+
+  pub any-drop-at : (xs : List A) (n k : ℕ) → n ≤ k → k < length xs → p (getD xs k d) ≡ true → any-of p (drop n xs) ≡ true
+  any-drop-at [] n k h l e = absurd (omega arith)
+  any-drop-at (x ∷ xs) zero zero h l e = rw e
+  any-drop-at (x ∷ xs) zero (suc k) h l e = rw (any-drop-at xs zero k (omega arith) (omega arith) e) (or-true (p x))
+  any-drop-at (x ∷ xs) (suc n) zero h l e = absurd (omega arith)
+  any-drop-at (x ∷ xs) (suc n) (suc k) h l e = any-drop-at xs n k (omega arith) (omega arith) e
+
+-- ---- the first places of a list of copies are written over
+
+module _ {A : Type 0} where
+  drop-replicate : (n k : ℕ) (z : A) → drop k (replicate n z) ≡ replicate (n - k) z
+  drop-replicate n zero z = rw sub-zero
+  drop-replicate zero (suc k) z = rw zero-sub
+  drop-replicate (suc n) (suc k) z = drop-replicate n k z ∙ rw suc-sub-suc
+
+  pub padded-tabulate : (f : ℕ → A) (n k : ℕ) (z : A) → tabulate f k ++ drop k (replicate n z) ≡ padded n z (tabulate f k)
+  padded-tabulate f n k z = rw (drop-replicate n k z, length-tabulate f k)

@@ -1,17 +1,19 @@
--- Laws of the lowest faulty node: it is where a search upward first finds the fault.
-use Prim.Native.Nat.{ℕ, zero, suc, _+_, _<_}
+-- Laws of checks: the lowest faulty node is where a search upward first finds the fault, and a call that is worked on has every check clear.
+use Prim.Native.Nat.{ℕ, zero, suc, _+_, _<_, _≤_}
 use native.Mathlib.Numerals.{add-one}
 use native.Mathlib.Decide.{decLt}
 use native.Mathlib.Omega.{arith}
-use mathlib.Core.Path.{_≡_, refl, subst, ap, _∙_}
+use mathlib.Core.Path.{_≡_, refl, subst, ap, _∙_, sym}
 use mathlib.Core.Logic.{_⊎_, inl, inr}
 use mathlib.Core.Bool.{Bool, true, false, cond, not}
-use Rattle.causes.specs.Causes.{Finding, clear, met, or-else, lowest, is-done, Check, check, first-cause, when}
-use lib.Dec.{T}
+use Rattle.causes.specs.Causes.{widths-fit, Finding, clear, met, or-else, lowest, is-done, Check, check, first-cause, when}
+use lib.ListN.{getD}
+use lib.Dec.{T, leb, leb→le}
+use Rattle.calculus.specs.Lists.Laws.{all-of-getD}
 use Rattle.calculus.specs.Reflects.{Reflects, holds, fails}
 use Rattle.causes.specs.declared.Answer.{Answer}
 use Rattle.causes.specs.declared.Answer.the-variants.{Done, Refused}
-use mathlib.Core.List.{List, [], _∷_}
+use mathlib.Core.List.{List, [], _∷_, _++_}
 
 before-or-last : (i n : ℕ) → i < suc n → (i < n) ⊎ (n ≡ i)
 before-or-last i n h = go (decLt i n)
@@ -48,6 +50,11 @@ lowest-clear faulty (suc n) c i h = go (lowest faulty n) (faulty n) refl refl (�
 pub reflects-done : (a : Answer) → Reflects (a ≡ Done) (is-done a)
 reflects-done Done = holds refl
 reflects-done (Refused n p) = fails (λ e. subst (λ a. T (not (is-done a))) e tt)
+
+-- A search that meets the fault at no node is clear.
+pub lowest-all-clear : (faulty : ℕ → Bool) (n : ℕ) → ((i : ℕ) → i < n → faulty i ≡ false) → lowest faulty n ≡ clear
+lowest-all-clear faulty zero h = refl
+lowest-all-clear faulty (suc n) h = rw (lowest-all-clear faulty n (λ i l. h i (omega arith)), h n (omega arith))
 
 -- The place that a search names is faulty, and no node below it is.
 pub lowest-least : (faulty : ℕ → Bool) (n i : ℕ) → lowest faulty n ≡ met i → (i < n) × (faulty i ≡ true) × ((j : ℕ) → j < i → faulty j ≡ false)
@@ -86,3 +93,32 @@ first-cause-done (check n (met p) ∷ cs) e = absurd never
 pub when-clear : (b : Bool) → when b ≡ clear → b ≡ false
 when-clear true e = cc
 when-clear false e = refl
+
+-- ---- the first cause of checks, and of others after them
+
+never-done : {n p : ℕ} → Refused n p ≡ Done → ⊥
+never-done e = let z : _≡_ {A = ℕ} 0 1 = cc in omega arith
+
+pub then-done : (cs ds : List Check) → first-cause cs ≡ Done → first-cause (cs ++ ds) ≡ first-cause ds
+then-done [] ds e = refl
+then-done (check n clear ∷ cs) ds e = then-done cs ds e
+then-done (check n (met p) ∷ cs) ds e = absurd (never-done e)
+
+pub then-refused : (cs ds : List Check) (n p : ℕ) → first-cause cs ≡ Refused n p → first-cause (cs ++ ds) ≡ Refused n p
+then-refused [] ds n p e = absurd (never-done (sym e))
+then-refused (check m clear ∷ cs) ds n p e = then-refused cs ds n p e
+then-refused (check m (met q) ∷ cs) ds n p e = e
+
+-- Where no cause is met, the first check's test failed, or the test that it denies held.
+pub first-clear : (n : ℕ) (b : Bool) (cs : List Check) → first-cause (check n (when b) ∷ cs) ≡ Done → (b ≡ false) × (first-cause cs ≡ Done)
+first-clear n true cs e = absurd (never-done e)
+first-clear n false cs e = (refl, e)
+
+pub first-passed : (n : ℕ) (b : Bool) (cs : List Check) → first-cause (check n (when (not b)) ∷ cs) ≡ Done → T b × (first-cause cs ≡ Done)
+first-passed n true cs e = (tt, e)
+first-passed n false cs e = absurd (never-done e)
+
+-- ---- cause 1
+
+pub width-fits : (ws : List ℕ) → T (widths-fit ws) → (r : ℕ) → getD ws r 0 ≤ 4
+width-fits ws t r = leb→le (getD ws r 0) 4 (all-of-getD (λ w. leb w 4) ws 0 t tt r)

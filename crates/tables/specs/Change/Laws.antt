@@ -1,7 +1,7 @@
 -- Laws of one record put or removed: the way the code goes about it comes to the replies of document 01, and what those replies do to the store.
 use Prim.Native.Nat.{ℕ, zero, suc, _+_, _-_, _<_, _≤_}
 use native.Mathlib.Omega.{arith}
-use mathlib.Core.Path.{_≡_, refl, sym, ap, ap₂, subst⁻¹, _∙_}
+use mathlib.Core.Path.{_≡_, refl, sym, ap, ap₂, subst, subst⁻¹, _∙_}
 use mathlib.Core.Logic.{_↔_, _⊎_, inl, inr, ⊎-elim}
 use mathlib.Core.Bool.{Bool, true, false, not, cond}
 use mathlib.Core.List.{List, [], _∷_, _++_, map, append-assoc}
@@ -19,12 +19,13 @@ use Rattle.calculus.specs.Satisfaction.{Fact}
 use Rattle.causes.specs.declared.Answer.{Answer}
 use Rattle.causes.specs.declared.Answer.the-variants.{Done, Refused}
 use Rattle.causes.specs.Causes.{Check, check, first-cause, when, widths-fit}
+use Rattle.causes.specs.Causes.Laws.{first-clear, first-passed}
 use Rattle.tables.specs.declared.Record.{Record}
 use Rattle.tables.specs.declared.Store.{Store}
 use Rattle.tables.specs.Records.{blank, record-below, same-record, fits, fact-of}
 use Rattle.tables.specs.Records.Laws.{reflects-same-record, record-order, fact-injective}
 use Rattle.tables.specs.Store.{capacity, places-of, held, facts, in-layout, judgement, of-places, store-of}
-use Rattle.tables.specs.Store.Laws.{length-places, places-store-of, held-store-of, facts-store-of, Layout, reflects-layout, length-held, layout-places, layout-store-of, first-clear, first-passed}
+use Rattle.tables.specs.Store.Laws.{length-places, places-store-of, held-store-of, facts-store-of, Layout, reflects-layout, length-held, layout-places, layout-store-of}
 use Rattle.tables.specs.Change.{is-held, without, reply, put-reply, removal-reply, rank, found, raised, lowered, insertion, deletion}
 
 -- ---- the place of a record
@@ -212,7 +213,7 @@ put-clear : (s : Store) (r : Record) (b : Bool) → first-cause (put-checks s r 
 put-clear s r b e =
     let p = first-passed 13 (fits (s .widths) r) (check 14 (when b) ∷ check 15 (when (leb capacity (s .count))) ∷ []) e in
     let q = first-clear 14 b (check 15 (when (leb capacity (s .count))) ∷ []) (p .1) in
-    (p .0, q .0, room (λ h. first-clear 15 (leb capacity (s .count)) [] (q .1) .0 (reflects (reflects-leb 256 (s .count)) h)))
+    (p .0, subst T (q .0), room (λ h. subst T (first-clear 15 (leb capacity (s .count)) [] (q .1) .0) (reflects (reflects-leb 256 (s .count)) h)))
   where
     room : ¬ (256 ≤ s .count) → s .count < 256
     room n = omega arith

@@ -1,7 +1,7 @@
 -- Laws of filling: to collect the records one by one comes to the filling of document 01, and what that filling gives.
 use Prim.Native.Nat.{ℕ, _<_, _≤_, _+_}
 use native.Mathlib.Omega.{arith}
-use mathlib.Core.Path.{_≡_, refl, sym, ap, subst⁻¹, _∙_}
+use mathlib.Core.Path.{_≡_, refl, sym, ap, subst, subst⁻¹, _∙_}
 use mathlib.Core.Logic.{_↔_, Iff·trans, _⊎_, inl, inr, ⊎-elim}
 use mathlib.Core.Bool.{Bool, true, false, not, _&&_, cond}
 use mathlib.Core.List.{List, [], _∷_, _++_, map}
@@ -18,13 +18,14 @@ use Rattle.calculus.specs.Satisfaction.{Fact}
 use Rattle.causes.specs.declared.Answer.{Answer}
 use Rattle.causes.specs.declared.Answer.the-variants.{Done, Refused}
 use Rattle.causes.specs.Causes.{check, first-cause, when, widths-fit}
+use Rattle.causes.specs.Causes.Laws.{first-clear, first-passed}
 use Rattle.tables.specs.declared.Record.{Record}
 use Rattle.tables.specs.declared.Store.{Store}
 use Rattle.tables.specs.declared.Changed.{Changed}
 use Rattle.tables.specs.Records.{record-below, fits, fact-of}
 use Rattle.tables.specs.Records.Laws.{record-order}
 use Rattle.tables.specs.Store.{capacity, facts, store-of, no-store}
-use Rattle.tables.specs.Store.Laws.{held-store-of, facts-store-of, Layout, layout-store-of, first-clear, first-passed}
+use Rattle.tables.specs.Store.Laws.{held-store-of, facts-store-of, Layout, layout-store-of}
 use Rattle.tables.specs.Change.{is-held, reply, insertion}
 use Rattle.tables.specs.Change.Laws.{reflects-held, put-checks, insertion-in-layout}
 use Rattle.tables.specs.Fill.{unless-refused, fill-from, fill-reply, beginning, merged, collected, collect-all}
@@ -144,7 +145,7 @@ filled ws ps (r ∷ rs) h e = subst⁻¹ (λ c. Filled ws ps (r ∷ rs) (c .stor
     next : Holdable ws (insert record-below r ps)
     next =
         let c = first-passed 13 (fits ws r) (check 15 (when (not (is-held r ps) && leb capacity (length ps))) ∷ []) (u .0) in
-        holdable-next r h (c .0) (first-clear 15 (not (is-held r ps) && leb capacity (length ps)) [] (c .1) .0)
+        holdable-next r h (c .0) (subst T (first-clear 15 (not (is-held r ps) && leb capacity (length ps)) [] (c .1) .0))
 
     into : (q : Record) → In q rs ⊎ In q (insert record-below r ps) → In q (r ∷ rs) ⊎ In q ps
     into q (inl i) = inl (there i)

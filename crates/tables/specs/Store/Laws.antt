@@ -2,7 +2,7 @@
 use Prim.Native.Nat.{ℕ, zero, suc, _+_, _*_, _-_, _<_, _≤_}
 use native.Mathlib.Omega.{arith}
 use mathlib.Core.Path.{_≡_, refl, sym, ap, subst, subst⁻¹, _∙_}
-use mathlib.Core.Bool.{Bool, true, false, not}
+use mathlib.Core.Bool.{not}
 use mathlib.Core.List.{List, [], _∷_, _++_, map}
 use lib.ListN.{length, getD, take, drop, replicate, length-drop, take-append-drop, List·getD-append, List·getD-map}
 use lib.Seq.{ext-getD, length-take-le, getD-append-add, take-append-seam, drop-append-seam}
@@ -15,7 +15,8 @@ use Rattle.calculus.specs.Order.{Ascending}
 use Rattle.calculus.specs.Order.Laws.{reflects-ascending, reflects-leb}
 use Rattle.calculus.specs.Reflects.{Reflects, reflects-T, reflects-map, reflects-and}
 use Rattle.causes.specs.declared.Answer.the-variants.{Done}
-use Rattle.causes.specs.Causes.{Check, check, first-cause, when, widths-fit}
+use Rattle.causes.specs.Causes.{check, when, widths-fit}
+use Rattle.causes.specs.Causes.Laws.{first-passed}
 use Rattle.tables.specs.declared.Record.{Record}
 use Rattle.tables.specs.declared.Store.{Store}
 use Rattle.tables.specs.Records.{values-of, blank, record-below, is-blank, fits, fact-of}
@@ -120,15 +121,6 @@ layout-store-of ws ps h f a =
     }
 
 -- ---- the judgement
-
--- Checks that find nothing: the first is clear, and so are the rest.
-pub first-clear : (n : ℕ) (b : Bool) (cs : List Check) → first-cause (check n (when b) ∷ cs) ≡ Done → (¬ T b) × (first-cause cs ≡ Done)
-first-clear n true cs e = let z : _≡_ {A = ℕ} 0 1 = cc in absurd (omega arith)
-first-clear n false cs e = (λ t. t, e)
-
-pub first-passed : (n : ℕ) (b : Bool) (cs : List Check) → first-cause (check n (when (not b)) ∷ cs) ≡ Done → T b × (first-cause cs ≡ Done)
-first-passed n true cs e = (tt, e)
-first-passed n false cs e = let z : _≡_ {A = ℕ} 0 1 = cc in absurd (omega arith)
 
 pub judged-layout : (s : Store) → judgement s ≡ Done → T (widths-fit (s .widths)) × T (in-layout s)
 judged-layout s e = let p = first-passed 1 (widths-fit (s .widths)) (check 2 (when (not (in-layout s))) ∷ []) e in (p .0, first-passed 2 (in-layout s) [] (p .1) .0)

@@ -3,17 +3,20 @@ use mathlib.Core.Path.{_≡_, refl, ap, subst, subst⁻¹}
 use mathlib.Core.Bool.{Bool, true, false, Bool·beq}
 use mathlib.Core.List.{List, []}
 use lib.Dec.{T}
 use Rattle.calculus.specs.Sets.{In, same-list}
 use Rattle.calculus.specs.Sets.Laws.{reflects-all, reflects-same-by, reflects-same-list}
 use Rattle.calculus.specs.Reflects.{Reflects, holds, fails, reflected, reflects-T, reflects-map, reflects-and}
 use Rattle.calculus.specs.Generators.{columns, Verdict, verdict, safe}
 use Rattle.calculus.specs.SafeRange.{SafeRange}
 use Rattle.calculus.specs.SafeRange.Answers.{safe-reflects, fv-columns}
 use Rattle.calculus.specs.Rows.{Row, Answers, endless, listed, Right}
 use Rattle.calculus.specs.Evaluation.{answers}
 use Rattle.calculus.specs.Evaluation.Laws.{answers-right}
-use Rattle.calculus.specs.Cases.{Case, cases, same-verdict, same-answers, passes, CaseRight}
-use Rattle.calculus.specs.Cases.Test.{cases-pass}
+use Rattle.causes.specs.declared.Answer.the-variants.{Done}
+use Rattle.causes.specs.Causes.Laws.{reflects-done}
+use Rattle.query.specs.Packing.{pack}
+use Rattle.query.specs.Cases.{read-case, formula-of, pool-of, Case, cases, same-verdict, same-answers, passes, CaseRight}
+use Rattle.query.specs.Cases.Test.{cases-pass}
 
 reflects-beq : (a b : Bool) → Reflects (a ≡ b) (Bool·beq a b)
 reflects-beq true true = holds refl
@@ -44,14 +47,24 @@ reflects-same-answers (listed l) (listed m) = reflects-map (ap listed) (ap rows-
 
 -- A case that passes the test is right.
 pub passes-right : (c : Case) → T (passes c) → CaseRight c
-passes-right c t = (h .0 .0, subst (Reflects (SafeRange (c .query))) (h .0 .1) (safe-reflects (c .query)), subst (Right (c .constants) (c .records) (c .query) (columns (c .query))) (h .1) (answers-right (c .constants) (c .records) (c .query) (columns (c .query)) (fv-columns (c .query))))
+passes-right c t = (
+  h .0 .0 .0 .0,
+  h .0 .0 .0 .1,
+  h .0 .0 .1,
+  subst (Reflects (SafeRange (formula-of c))) (h .0 .1) (safe-reflects (formula-of c)),
+  subst (Right (pool-of c) (c .records) (formula-of c) (columns (formula-of c))) (h .1) (answers-right (pool-of c) (c .records) (formula-of c) (columns (formula-of c)) (fv-columns (formula-of c))),
+)
   where
-    h : ((verdict (c .query) ≡ c .says) × (safe (verdict (c .query)) ≡ c .says-safe)) × (answers (c .constants) (c .records) (c .query) (columns (c .query)) ≡ c .gives)
+    h : ((((pack (c .constants) (c .query) ≡ c .bytes) × (read-case c .answer ≡ Done)) × (verdict (formula-of c) ≡ c .says)) × (safe (verdict (formula-of c)) ≡ c .says-safe)) × (answers (pool-of c) (c .records) (formula-of c) (columns (formula-of c)) ≡ c .gives)
     h =
         reflected
         (reflects-and
-        (reflects-and (reflects-same-verdict (verdict (c .query)) (c .says)) (reflects-beq (safe (verdict (c .query))) (c .says-safe)))
-        (reflects-same-answers (answers (c .constants) (c .records) (c .query) (columns (c .query))) (c .gives)))
+        (reflects-and
+        (reflects-and
+        (reflects-and (reflects-same-list (pack (c .constants) (c .query)) (c .bytes)) (reflects-done (read-case c .answer)))
+        (reflects-same-verdict (verdict (formula-of c)) (c .says)))
+        (reflects-beq (safe (verdict (formula-of c))) (c .says-safe)))
+        (reflects-same-answers (answers (pool-of c) (c .records) (formula-of c) (columns (formula-of c))) (c .gives)))
         t
 
 -- Every case of the table is right.

@@ -1,0 +1,236 @@
+-- Every query that the reader accepts has what Accepted promises. And what a reply is, by its answer.
+use Prim.Native.Nat.{ℕ, zero, suc, _+_, _*_, _-_, _%_, _<_, _≤_, _^_}
+use native.Mathlib.Omega.{arith}
+use mathlib.Core.Path.{_≡_, refl, sym, ap, subst, subst⁻¹, _∙_}
+use mathlib.Core.Bool.{Bool, true, false, true≢false, not, _&&_, _||_, cond}
+use mathlib.Core.List.{List, [], _∷_, _++_, map}
+use lib.ListN.{length, getD, take, length-map, List·getD-append, replicate}
+use lib.Seq.{length-take-le, take-append-seam}
+use lib.Dec.{T, leb, ltb, eqb, nleb→lt}
+use Rattle.calculus.specs.Sets.{In, here, there, any-of}
+use Rattle.calculus.specs.Sets.Laws.{from-map}
+use Rattle.calculus.specs.Lists.Laws.{length-tabulate, or-fails, any-of-false, from-tabulate}
+use Rattle.calculus.specs.Reflects.{Reflects, holds, fails, reflects-T, reflects-false, reflects-eqb}
+use Rattle.calculus.specs.Formula.{Term, var, con, Fmla, rel, size}
+use Rattle.calculus.specs.Generators.{columns}
+use Rattle.causes.specs.declared.Answer.{Answer}
+use Rattle.causes.specs.declared.Answer.the-variants.{Done, Refused}
+use Rattle.causes.specs.Causes.{clear, first-cause, when, widths-fit}
+use Rattle.causes.specs.Causes.Laws.{width-fits, AllClear, first-cause-done, when-clear, lowest-clear}
+use Rattle.query.specs.Nodes.{relation, term-count, terms, variable, equal-term, left, right, under, children, uses, malformed, misplaced, is-stray, strays, mismatched}
+use Rattle.query.specs.Decoding.{term-of, node-formula, formula-at, root}
+use Rattle.query.specs.Decoding.Laws.{Kind, is-truth, is-record, is-equality, is-not, is-and, is-or, is-exists, is-none, kind-of, formula-step}
+use Rattle.query.specs.Reading.{version, max-nodes, max-constants, max-columns, count-of-nodes, count-of-constants, word-at, constants-of, nodes-of, tree-checks, column-checks, read-checks, query-of, columns-of, refusal, accepted, read-reply, read-of, pool, nodes-in, formula}
+use Rattle.query.specs.Packing.{TermFits, var-fits, con-fits, Fits, truth-fits, rel-fits, eq-fits, neg-fits, conj-fits, disj-fits, exists-fits, Packable}
+use Rattle.query.specs.Accepted.{Accepted}
+use Rattle.query.specs.Accepted.Size.{root-size}
+
+-- ---- tests that fail
+
+pub confirmed : {A : Type 0} {b : Bool} → Reflects A b → not b ≡ false → A
+confirmed (holds a) e = a
+confirmed (fails n) e = absurd (true≢false e)
+
+not-le : (m n : ℕ) → leb m n ≡ false → n < m
+not-le m n e = nleb→lt m n (rw e tt)
+
+not-less : (m n : ℕ) → ltb m n ≡ false → n ≤ m
+not-less m n e = let l : n < suc m = not-le (suc m) n e in omega arith
+
+not-zero : (n : ℕ) → eqb n 0 ≡ false → 0 < n
+not-zero zero e = absurd (true≢false e)
+not-zero (suc n) e = omega arith
+
+-- ---- the formula of a node without faults
+
+term-fits : (k t : ℕ) → is-stray k t ≡ false → TermFits k (term-of t)
+term-fits k t e = go (leb 16 t) e
+  where
+    go : (b : Bool) → b && leb k (t % 16) ≡ false → TermFits k (cond b (con (t % 16)) (var (t % 16)))
+    go true e = con-fits (not-le k (t % 16) e)
+    go false e = var-fits {x = t % 16} (omega arith)
+
+terms-fit : (k : ℕ) (xs : List ℕ) → any-of (is-stray k) xs ≡ false → (t : Term) → In t (map term-of xs) → TermFits k t
+terms-fit k xs e t i = let r = from-map term-of xs i in subst⁻¹ (TermFits k) (r .2) (term-fits k (r .0) (any-of-false (is-stray k) xs e (r .0) (r .1)))
+
+module _ (ws : List ℕ) (k : ℕ) (widths : T (widths-fit ws)) where
+  -- A record of relation r with the first n of four terms.
+  record-fits : (r n : ℕ) (xs : List ℕ) → r < 16 → length xs ≡ 4 → (eqb (getD ws r 0) 0 ≡ false) × (not (eqb n (getD ws r 0)) ≡ false) → any-of (is-stray k) (take n xs) ≡ false → Fits ws k (rel r (map term-of (take n xs)))
+  record-fits r n xs l four m s = rel-fits {r = r} {ts = map term-of (take n xs)} l (omega (arith, not-zero (getD ws r 0) (m .0), same, count)) (count ∙ same) (terms-fit k (take n xs) s)
+    where
+      same : n ≡ getD ws r 0
+      same = confirmed (reflects-eqb n (getD ws r 0)) (m .1)
+
+      count : length (map term-of (take n xs)) ≡ n
+      count = length-map (take n xs) term-of ∙ length-take-le n xs (omega (arith, same, width-fits ws widths r))
+
+  node-fits : (w : ℕ) (child : ℕ → Fmla) → malformed w ≡ false → strays k w ≡ false → mismatched ws w ≡ false → ((c : ℕ) → In c (children w) → Fits ws k (child c)) → Fits ws k (node-formula w child)
+  node-fits w child f s m h = go (kind-of w)
+    where
+      go : Kind w → Fits ws k (node-formula w child)
+      go (is-truth e) = rw e truth-fits
+      go (is-record e) = rw e (record-fits (relation w) (term-count w) (terms w) (omega arith) refl (or-fails (eqb (getD ws (relation w) 0) 0) (not (eqb (term-count w) (getD ws (relation w) 0))) (rw e at m)) (rw e at s))
+      go (is-equality e) = rw e (eq-fits {x = variable w} (omega arith) (term-fits k (equal-term w) (any-of-false (is-stray k) (equal-term w ∷ []) (rw e at s) (equal-term w) (here refl))))
+      go (is-not e) = let r = rw e at h in rw e (neg-fits (r (left w) (here refl)))
+      go (is-and e) = let r = rw e at h in rw e (conj-fits (r (left w) (here refl)) (r (right w) (there (here refl))))
+      go (is-or e) = let r = rw e at h in rw e (disj-fits (r (left w) (here refl)) (r (right w) (there (here refl))))
+      go (is-exists e) = let r = rw e at h in rw e (exists-fits {x = variable w} (omega arith) (r (under w) (here refl)))
+      go (is-none j e) = absurd (true≢false (rw e at f))
+
+-- ---- what the checks leave
+
+-- Of the constants cs and the nodes ns.
+pub record Checked (ws cs ns : List ℕ) : Type 0 where
+  pub widths : T (widths-fit ws)
+  pub some-node : 1 ≤ length ns
+  pub few-nodes : length ns ≤ max-nodes
+  pub few-constants : length cs ≤ max-constants
+  pub formed : (i : ℕ) → i < length ns → malformed (getD ns i 0) ≡ false
+  pub placed : (i : ℕ) → i < length ns → misplaced ns i ≡ false
+  pub constants-held : (i : ℕ) → i < length ns → strays (length cs) (getD ns i 0) ≡ false
+  pub relations-held : (i : ℕ) → i < length ns → mismatched ws (getD ns i 0) ≡ false
+  pub few-columns : length (columns (root ns)) ≤ max-columns
+  pub constants-fit : (v : ℕ) → In v cs → v < 2 ^ 32
+
+module _ (ws cs ns : List ℕ) (c : Checked ws cs ns) where
+  placed-parts : (i : ℕ) → i < length ns → (any-of (leb i) (children (getD ns i 0)) ≡ false) × (not (eqb (i + 1) (length ns)) && not (eqb (uses ns i) 1) ≡ false)
+  placed-parts i h = or-fails (any-of (leb i) (children (getD ns i 0))) (not (eqb (i + 1) (length ns)) && not (eqb (uses ns i) 1)) (c .placed i h)
+
+  pub children-below : (i : ℕ) → i < length ns → (d : ℕ) → In d (children (getD ns i 0)) → d < i
+  children-below i h d m = not-le i d (any-of-false (leb i) (children (getD ns i 0)) (placed-parts i h .0) d m)
+
+  once : (i : ℕ) → i + 1 < length ns → uses ns i ≡ 1
+  once i h = confirmed (reflects-eqb (uses ns i) 1) (rw inner at (placed-parts i (omega arith) .1))
+    where
+      inner : eqb (i + 1) (length ns) ≡ false
+      inner = reflects-false (reflects-eqb (i + 1) (length ns)) (λ e. omega arith)
+
+  fits-below : (n : ℕ) → n ≤ length ns → (i : ℕ) → i < n → Fits ws (length cs) (formula-at ns i)
+  fits-below zero l i h = absurd (omega arith)
+  fits-below (suc n) l i h = subst⁻¹ (Fits ws (length cs)) (formula-step ns i (children-below i j)) (node-fits ws (length cs) (c .widths) (getD ns i 0) (formula-at ns) (c .formed i j) (c .constants-held i j) (c .relations-held i j) (λ d m. let b : d < i = children-below i j d m in fits-below n (omega arith) d (omega arith)))
+    where
+      j : i < length ns
+      j = omega arith
+
+  pub size-right : size (root ns) ≡ length ns
+  size-right = root-size ns children-below once (c .some-node)
+
+  fit-to-pack : Packable ws cs (root ns)
+  fit-to-pack = record {
+    fits = fits-below (length ns) (omega arith) (length ns - 1) (omega (arith, c .some-node));
+    few-nodes = omega (arith, size-right, c .few-nodes);
+    few-constants = c .few-constants;
+    constants-fit = c .constants-fit;
+    few-columns = c .few-columns;
+  }
+
+-- ---- the query of constants and nodes
+
+pool-of : (cs ns : List ℕ) → pool (query-of cs ns) ≡ cs
+pool-of cs ns = take-append-seam cs (replicate (max-constants - length cs) 0)
+
+nodes-of-query : (cs ns : List ℕ) → nodes-in (query-of cs ns) ≡ ns
+nodes-of-query cs ns = take-append-seam ns (replicate (max-nodes - length ns) 0)
+
+node-at : (cs ns : List ℕ) (i : ℕ) → i < length ns → getD (query-of cs ns .nodes) i 0 ≡ getD ns i 0
+node-at cs ns i h = List·getD-append ns (replicate (max-nodes - length ns) 0) 0 i h
+
+checked-accepted : (ws cs ns : List ℕ) → Checked ws cs ns → Accepted ws (query-of cs ns)
+checked-accepted ws cs ns c = record {
+  some-node = c .some-node;
+  few-nodes = c .few-nodes;
+  few-constants = c .few-constants;
+  whole = (λ i. query-of (sym (pool-of cs ns) i) (sym (nodes-of-query cs ns) i));
+  children-below = (λ i h d m. children-below ws cs ns c i h d (subst (λ w. In d (children w)) (node-at cs ns i h) m));
+  child-once = (λ i h. rw nodes-of-query (once ws cs ns c i h));
+  formed = (λ i h. ap malformed (node-at cs ns i h) ∙ c .formed i h);
+  constants-held = (λ i h. ap (strays (length cs)) (node-at cs ns i h) ∙ c .constants-held i h);
+  relations-held = (λ i h. ap (mismatched ws) (node-at cs ns i h) ∙ c .relations-held i h);
+  size-is = ap (λ l. size (root l)) (nodes-of-query cs ns) ∙ size-right ws cs ns c;
+  packable = subst⁻¹ (λ l. Packable ws l (formula (query-of cs ns))) (pool-of cs ns) (subst⁻¹ (λ l. Packable ws cs (root l)) (nodes-of-query cs ns) (fit-to-pack ws cs ns c));
+}
+
+-- ---- the reply, by its answer
+
+reply-answer : (a : Answer) (cs ns : List ℕ) → read-reply a cs ns .answer ≡ a
+reply-answer Done cs ns = refl
+reply-answer (Refused n p) cs ns = refl
+
+module _ (ws bs : List ℕ) where
+  cause : (a : Answer) → read-of ws bs .answer ≡ a → first-cause (read-checks ws bs) ≡ a
+  cause a h = sym (reply-answer (first-cause (read-checks ws bs)) (constants-of bs) (nodes-of bs)) ∙ h
+
+  reply-is : (a : Answer) → read-of ws bs .answer ≡ a → read-of ws bs ≡ read-reply a (constants-of bs) (nodes-of bs)
+  reply-is a h = ap (λ b. read-reply b (constants-of bs) (nodes-of bs)) (cause a h)
+
+  pub read-done : read-of ws bs .answer ≡ Done → read-of ws bs ≡ accepted (constants-of bs) (nodes-of bs)
+  read-done h = reply-is Done h
+
+  pub read-refused : (n p : ℕ) → read-of ws bs .answer ≡ Refused n p → read-of ws bs ≡ refusal n p
+  read-refused n p h = reply-is (Refused n p) h
+
+  checks-clear : read-of ws bs .answer ≡ Done → AllClear (read-checks ws bs)
+  checks-clear h = first-cause-done (read-checks ws bs) (cause Done h)
+
+  pub read-widths : read-of ws bs .answer ≡ Done → T (widths-fit ws)
+  read-widths h = confirmed (reflects-T (widths-fit ws)) (when-clear (not (widths-fit ws)) (checks-clear h .0))
+
+  pub read-formula : read-of ws bs .answer ≡ Done → formula (read-of ws bs .query) ≡ root (nodes-of bs)
+  read-formula h = ap (λ r. formula (r .query)) (read-done h) ∙ ap root (nodes-of-query (constants-of bs) (nodes-of bs))
+
+  pub read-pool : read-of ws bs .answer ≡ Done → pool (read-of ws bs .query) ≡ constants-of bs
+  read-pool h = ap (λ r. pool (r .query)) (read-done h) ∙ pool-of (constants-of bs) (nodes-of bs)
+
+  pub read-version : read-of ws bs .answer ≡ Done → version bs ≡ 1
+  read-version h = confirmed (reflects-eqb (version bs) 1) (or-fails (ltb (length bs) 2) (not (eqb (version bs) 1)) (when-clear (ltb (length bs) 2 || not (eqb (version bs) 1)) (checks-clear h .1 .0)) .1)
+
+  pub read-length : read-of ws bs .answer ≡ Done → length bs ≡ 2 + 4 * count-of-constants bs + 4 * count-of-nodes bs
+  read-length h = confirmed (reflects-eqb (length bs) (2 + 4 * count-of-constants bs + 4 * count-of-nodes bs)) (when-clear (not (eqb (length bs) (2 + 4 * count-of-constants bs + 4 * count-of-nodes bs))) (checks-clear h .1 .1 .1 .0))
+
+  pub read-columns : read-of ws bs .answer ≡ Done → read-of ws bs .columns ≡ columns-of (columns (formula (read-of ws bs .query)))
+  read-columns h = ap (λ r. r .columns) (read-done h) ∙ ap (λ φ. columns-of (columns φ)) (sym (read-formula h))
+
+-- ---- every accepted query
+
+word-fits : (bs : List ℕ) → ((i : ℕ) → getD bs i 0 < 256) → (i : ℕ) → word-at bs i < 2 ^ 32
+word-fits bs b i = omega (arith, b i, b (i + 1), b (i + 2), b (i + 3))
+
+constant-fits : (bs : List ℕ) → ((i : ℕ) → getD bs i 0 < 256) → (v : ℕ) → In v (constants-of bs) → v < 2 ^ 32
+constant-fits bs b v m = let r = from-tabulate (λ i. word-at bs (2 + 4 * i)) (count-of-constants bs) m in subst⁻¹ (λ x. x < 2 ^ 32) (r .2) (word-fits bs b (2 + 4 * r .0))
+
+constants-length : (bs : List ℕ) → length (constants-of bs) ≡ count-of-constants bs
+constants-length bs = length-tabulate (λ i. word-at bs (2 + 4 * i)) (count-of-constants bs)
+
+pub nodes-length : (bs : List ℕ) → length (nodes-of bs) ≡ count-of-nodes bs
+nodes-length bs = length-tabulate (λ i. word-at bs (2 + 4 * count-of-constants bs + 4 * i)) (count-of-nodes bs)
+
+-- Cause 4 is not met.
+counts-fit : (n k : ℕ) → when (eqb n 0 || ltb max-nodes n || ltb max-constants k) ≡ clear → (1 ≤ n) × (n ≤ max-nodes) × (k ≤ max-constants)
+counts-fit n k e = go (or-fails (eqb n 0 || ltb max-nodes n) (ltb max-constants k) (when-clear (eqb n 0 || ltb max-nodes n || ltb max-constants k) e))
+  where
+    go : (eqb n 0 || ltb max-nodes n ≡ false) × (ltb max-constants k ≡ false) → (1 ≤ n) × (n ≤ max-nodes) × (k ≤ max-constants)
+    go r = let u = or-fails (eqb n 0) (ltb max-nodes n) (r .0) in (not-zero n (u .0), not-less max-nodes n (u .1), not-less max-constants k (r .1))
+
+module _ (ws bs : List ℕ) (bytes : (i : ℕ) → getD bs i 0 < 256) (h : read-of ws bs .answer ≡ Done) where
+  counts : (1 ≤ count-of-nodes bs) × (count-of-nodes bs ≤ max-nodes) × (count-of-constants bs ≤ max-constants)
+  counts = counts-fit (count-of-nodes bs) (count-of-constants bs) (checks-clear ws bs h .1 .1 .0)
+
+  tree-clear : AllClear (tree-checks ws (count-of-constants bs) (nodes-of bs) ++ column-checks (nodes-of bs))
+  tree-clear = checks-clear ws bs h .1 .1 .1 .1
+
+  pub read-checked : Checked ws (constants-of bs) (nodes-of bs)
+  read-checked = record {
+    widths = read-widths ws bs h;
+    some-node = rw nodes-length (counts .0);
+    few-nodes = rw nodes-length (counts .1);
+    few-constants = rw constants-length (counts .2);
+    formed = lowest-clear (λ i. malformed (getD (nodes-of bs) i 0)) (length (nodes-of bs)) (tree-clear .0);
+    placed = lowest-clear (misplaced (nodes-of bs)) (length (nodes-of bs)) (tree-clear .1 .0);
+    constants-held = (λ i l. subst⁻¹ (λ k. strays k (getD (nodes-of bs) i 0) ≡ false) (constants-length bs) (lowest-clear (λ j. strays (count-of-constants bs) (getD (nodes-of bs) j 0)) (length (nodes-of bs)) (tree-clear .1 .1 .0) i l));
+    relations-held = lowest-clear (λ i. mismatched ws (getD (nodes-of bs) i 0)) (length (nodes-of bs)) (tree-clear .1 .1 .1 .0);
+    few-columns = not-less max-columns (length (columns (root (nodes-of bs)))) (when-clear (ltb max-columns (length (columns (root (nodes-of bs))))) (tree-clear .1 .1 .1 .1 .0));
+    constants-fit = constant-fits bs bytes;
+  }
+
+  pub read-accepted : Accepted ws (read-of ws bs .query)
+  read-accepted = subst⁻¹ (λ r. Accepted ws (r .query)) (read-done ws bs h) (checked-accepted ws (constants-of bs) (nodes-of bs) read-checked)

@@ -1,0 +1,103 @@
+// The free variables of a packed query, and its columns.
+use crate::Columns;
+ghost use mathlib.Core.Path.{_≡_};
+ghost use mathlib.Core.Bool.{false};
+ghost use mathlib.Core.List.{[], _∷_};
+ghost use Prim.Native.Nat.{_≤_, _<_};
+ghost use lib.ListN.{getD, take};
+ghost use Rattle.calculus.specs.Sets.{member};
+ghost use Rattle.calculus.specs.Formula.{fv};
+ghost use Rattle.calculus.specs.Generators.{columns as columns-read};
+ghost use Rattle.query.specs.Decoding.{root};
+ghost use Rattle.query.specs.Free.{free-in, columns-found};
+
+// Whether x is among the first count terms.
+fn among(x: u32, count: u32, a: u32, b: u32, c: u32, d: u32) -> bool
+    ensures { λ r. ⌜ r ≡ member x (take count (a ∷ b ∷ c ∷ d ∷ [])) ⌝ }
+{
+    if count == 0 {
+        return false;
+    }
+    if x == a {
+        return true;
+    }
+    if count == 1 {
+        return false;
+    }
+    if x == b {
+        return true;
+    }
+    if count == 2 {
+        return false;
+    }
+    if x == c {
+        return true;
+    }
+    if count == 3 {
+        return false;
+    }
+    x == d
+}
+
+// Whether variable x is free in a node, given of which nodes before it that holds.
+fn free_in_node(w: u32, x: u32, before: &[bool; 64]) -> bool
+    ensures { λ r. ⌜ r ≡ free-in x w (λ c. getD (now (before .entry)) c false) ⌝ }
+{
+    let kind = w / 536870912;
+    let left = (w / 8388608 % 64) as usize;
+    let right = (w / 131072 % 64) as usize;
+    let under = (w / 524288 % 64) as usize;
+    let variable = w / 33554432 % 16;
+    match kind {
+        1 => among(
+            x,
+            w / 4194304 % 8,
+            w / 131072 % 32,
+            w / 4096 % 32,
+            w / 128 % 32,
+            w / 4 % 32,
+        ),
+        2 => x == variable || x == w / 1048576 % 32,
+        3 => before[left],
+        4 | 5 => before[left] || before[right],
+        6 => x != variable && before[under],
+        _ => false,
+    }
+}
+
+// Whether variable x is free in the query.
+fn is_free(nodes: &[u32; 64], n: usize, x: u32) -> bool
+    requires { ⌜ (1 ≤ n) × (n ≤ 64) × (x < 16) ⌝ }
+    ensures { λ r. ⌜ r ≡ member x (fv (root (take n (now (nodes .entry))))) ⌝ }
+{
+    // As a slice: that gives the proof the length.
+    let all: &[u32] = nodes;
+    let mut free = [false; 64];
+    let mut i = 0;
+    while i < n {
+        let here = free_in_node(all[i], x, &free);
+        free[i] = here;
+        i += 1;
+    }
+    free[n - 1]
+}
+
+// The free variables of the query, ascending: their number, and the first four of them.
+pub fn columns(nodes: &[u32; 64], n: usize) -> Columns
+    requires { ⌜ (1 ≤ n) × (n ≤ 64) ⌝ }
+    ensures { λ c. ⌜ c ≡ columns-found (columns-read (root (take n (now (nodes .entry))))) ⌝ }
+{
+    let mut variables = [0u8; 4];
+    let mut count = 0;
+    let mut x: u8 = 0;
+    while x < 16 {
+        if is_free(nodes, n, x as u32) {
+            if count < 4 {
+                variables[count] = x;
+            }
+            count += 1;
+        }
+        x += 1;
+    }
+    Columns { variables, count }
+}

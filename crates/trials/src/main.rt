@@ -1,0 +1,322 @@
+// Runs the calls of the crates tables and query on the cases of standard input, and writes a line for each: its name, and the reply.
+//
+// A case is a kind, the length of its name (1 byte), the length of its body (2 bytes, high byte first), the name and the body. Kinds:
+// q reads a query: the body is sixteen widths and the query's bytes.
+// s judges a store, p puts a record into one, r removes one: the body is a record of 17 bytes, then the store: sixteen widths, its count (2 bytes), the
+//   number of record places that follow (2 bytes), and those places, 17 bytes each; places that don't follow are zero.
+// f fills a store: the body is sixteen widths, and the records, 17 bytes each.
+// l fills a store from a lent list: the same, with eight records.
+mod lend;
+
+ghost use Prim.Native.Nat.{_≤_, _<_};
+ghost use lib.ListN.{length};
+use causes::Answer;
+use query::Columns;
+use query::Query;
+use tables::Changed;
+use tables::Record;
+use tables::Store;
+
+// The byte at i, or 0 past the end.
+fn byte(s: &[u8], i: usize) -> u8 {
+    if i < s.len() { s[i] } else { 0 }
+}
+
+fn wide(b: u8) -> u32
+    ensures { λ r. ⌜ r < 256 ⌝ }
+{
+    b as u32
+}
+
+fn pair(s: &[u8], i: usize) -> usize
+    requires { ⌜ i < 1000000 ⌝ }
+    ensures { λ r. ⌜ r < 65536 ⌝ }
+{
+    let high = wide(byte(s, i));
+    let low = wide(byte(s, i + 1));
+    (high * 256 + low) as usize
+}
+
+fn quad(s: &[u8], i: usize) -> u32
+    requires { ⌜ i < 1000000 ⌝ }
+{
+    let a = wide(byte(s, i));
+    let b = wide(byte(s, i + 1));
+    let c = wide(byte(s, i + 2));
+    let d = wide(byte(s, i + 3));
+    ((a * 256 + b) * 256 + c) * 256 + d
+}
+
+fn record_of(s: &[u8], i: usize) -> Record
+    requires { ⌜ i < 900000 ⌝ }
+{
+    Record {
+        relation: byte(s, i),
+        first: quad(s, i + 1),
+        second: quad(s, i + 5),
+        third: quad(s, i + 9),
+        fourth: quad(s, i + 13),
+    }
+}
+
+fn widths_of(s: &[u8], from: usize) -> [u8; 16]
+    requires { ⌜ from < 1000 ⌝ }
+{
+    let mut widths = [0u8; 16];
+    let mut i = 0;
+    while i < 16 {
+        widths[i] = byte(s, from + i);
+        i += 1;
+    }
+    widths
+}
+
+fn store_of(s: &[u8]) -> Store {
+    let widths = widths_of(s, 17);
+    let count = pair(s, 33);
+    let given = pair(s, 35);
+    let mut relations = [0u8; 256];
+    let mut values = [0u32; 1024];
+    let mut i = 0;
+    while i < 256 {
+        if i < given {
+            let r = record_of(s, 37 + 17 * i);
+            tables::place::write(&mut relations, &mut values, i, r);
+        }
+        i += 1;
+    }
+    Store {
+        widths,
+        relations,
+        values,
+        count,
+    }
+}
+
+fn word(n: u64) {
+    io::write_all(1, b" ");
+    io::print_decimal(1, n);
+}
+
+fn number(n: u32) {
+    word(n as u64);
+}
+
+fn hex_word(n: u32) {
+    io::write_all(1, b" ");
+    io::print_hex(1, n as u64, 8);
+}
+
+fn refused(number: u8, place: u8) {
+    io::write_all(1, b" refused");
+    word(number as u64);
+    word(place as u64);
+}
+
+fn list_record(r: Record) {
+    io::write_all(1, b" |");
+    word(r.relation as u64);
+    word(r.first as u64);
+    word(r.second as u64);
+    word(r.third as u64);
+    word(r.fourth as u64);
+}
+
+fn mixed(h: u64, v: u32) -> u64 {
+    h % 1000003 * 31 + v as u64
+}
+
+fn mix_bytes(h: u64, s: &[u8]) -> u64 {
+    let mut sum = h;
+    let mut i = 0;
+    while i < s.len() {
+        sum = mixed(sum, wide(s[i]));
+        i += 1;
+    }
+    sum
+}
+
+fn mix_numbers(h: u64, s: &[u32]) -> u64 {
+    let mut sum = h;
+    let mut i = 0;
+    while i < s.len() {
+        sum = mixed(sum, s[i]);
+        i += 1;
+    }
+    sum
+}
+
+// A sum over all record places and widths, which tells stores apart.
+fn sum_of(s: Store) -> u64 {
+    let widths = s.widths;
+    let relations = s.relations;
+    let values = s.values;
+    mix_numbers(mix_bytes(mix_bytes(7, &widths), &relations), &values)
+}
+
+// The count, the sum, and the records of a small store.
+fn list_store(s: Store) {
+    let count = s.count;
+    let relations = s.relations;
+    let values = s.values;
+    io::write_all(1, b" count");
+    word(count as u64);
+    io::write_all(1, b" sum");
+    word(sum_of(s));
+    if 4 < count {
+        return;
+    }
+    let mut i = 0;
+    while i < count {
+        list_record(tables::place::read(&relations, &values, i));
+        i += 1;
+    }
+}
+
+fn list_changed(c: Changed) {
+    let answer = c.answer;
+    match answer {
+        Answer::Done => {
+            io::write_all(1, b" done");
+        }
+        Answer::Refused(number, place) => refused(number, place),
+    }
+    let s = c.store;
+    list_store(s);
+}
+
+// The first n numbers, or all: in decimal, or as words of eight hexadecimal digits.
+fn list_numbers(s: &[u32], n: usize, as_words: bool) {
+    let mut i = 0;
+    while i < s.len() {
+        if i < n {
+            if as_words {
+                hex_word(s[i]);
+            } else {
+                number(s[i]);
+            }
+        }
+        i += 1;
+    }
+}
+
+fn list_bytes(s: &[u8], n: usize) {
+    let mut i = 0;
+    while i < s.len() {
+        if i < n {
+            number(wide(s[i]));
+        }
+        i += 1;
+    }
+}
+
+fn list_query(q: Query, c: Columns) {
+    let constants = q.constants;
+    let nodes = q.nodes;
+    let variables = c.variables;
+    io::write_all(1, b" accepted columns");
+    list_bytes(&variables, c.count);
+    io::write_all(1, b" constants");
+    list_numbers(&constants, q.constant_count, false);
+    io::write_all(1, b" nodes");
+    list_numbers(&nodes, q.node_count, true);
+}
+
+fn run_query(body: &[u8]) {
+    if body.len() < 16 {
+        return;
+    }
+    let r = query::read(&body[16..], widths_of(body, 0));
+    let answer = r.answer;
+    match answer {
+        Answer::Done => {
+            let q = r.query;
+            let c = r.columns;
+            list_query(q, c);
+        }
+        Answer::Refused(number, place) => refused(number, place),
+    }
+}
+
+// A length, or 65,536 where it is more.
+fn capped(n: usize) -> usize
+    ensures { λ r. ⌜ r ≤ 65536 ⌝ }
+{
+    if n < 65536 { n } else { 65536 }
+}
+
+fn run_fill(body: &[u8]) {
+    let end = capped(body.len());
+    let mut f = tables::fill::begin(widths_of(body, 0));
+    let mut at = 16;
+    while at + 17 <= end {
+        f = tables::fill::collect(f, record_of(body, at));
+        at += 17;
+    }
+    list_changed(f);
+}
+
+fn run_lent_fill(body: &[u8]) {
+    let records = [
+        record_of(body, 16),
+        record_of(body, 33),
+        record_of(body, 50),
+        record_of(body, 67),
+        record_of(body, 84),
+        record_of(body, 101),
+        record_of(body, 118),
+        record_of(body, 135),
+    ];
+    list_changed(lend::fill_eight(widths_of(body, 0), records));
+}
+
+fn run_judge(s: Store) {
+    let answer = tables::layout::judge(s);
+    match answer {
+        Answer::Done => {
+            io::write_all(1, b" done");
+        }
+        Answer::Refused(number, place) => refused(number, place),
+    }
+}
+
+fn run(kind: u8, body: &[u8]) {
+    match kind {
+        b'q' => run_query(body),
+        b's' => run_judge(store_of(body)),
+        b'p' => list_changed(tables::change::put(store_of(body), record_of(body, 0))),
+        b'r' => list_changed(tables::change::remove(store_of(body), record_of(body, 0))),
+        b'f' => run_fill(body),
+        b'l' => run_lent_fill(body),
+        _ => {}
+    }
+}
+
+// The case at a place of the input, and where the next one starts.
+fn step(input: &[u8], at: usize) -> usize
+    requires { ⌜ at < 65536 ⌝ }
+    ensures { λ r. ⌜ at < r ⌝ }
+{
+    let kind = byte(input, at);
+    let name = at + 4;
+    let body = name + wide(byte(input, at + 1)) as usize;
+    let end = body + pair(input, at + 2);
+    if input.len() < end {
+        io::write_all(1, b"input ends early\n");
+        return end;
+    }
+    io::write_all(1, &input[name..body]);
+    io::write_all(1, b":");
+    run(kind, &input[body..end]);
+    io::write_all(1, b"\n");
+    end
+}
+
+fn main() {
+    let mut space = io::large_buffer();
+    let n = io::read_full(0, &mut space);
+    let mut at = 0;
+    while at < n {
+        at = step(&space[..n], at);
+    }
+}

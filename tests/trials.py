@@ -1,0 +1,456 @@
+#!/usr/bin/env python3
+"""Cases for the program crates/trials, and what document 01 says of each: an account of the reader and of the tables that shares nothing with the engine.
+
+trials.py            compares crates/trials/stdin and crates/trials/stdout with what this account gives; exit status 1 where they differ
+trials.py --write    writes both files
+"""
+import pathlib
+import random
+import struct
+import sys
+
+# ---- queries, from document 01, "The packed query"
+
+WIDTHS_S = [2, 1] + [0] * 14
+
+
+def word_fields(w):
+    """The kind of a node, and its fields by name."""
+    bits = f"{w:032b}"
+    layout = {
+        0: [("truth", 1)],
+        1: [("relation", 4), ("count", 3), ("t0", 5), ("t1", 5), ("t2", 5), ("t3", 5)],
+        2: [("variable", 4), ("term", 5)],
+        3: [("child", 6)],
+        4: [("left", 6), ("right", 6)],
+        5: [("left", 6), ("right", 6)],
+        6: [("variable", 4), ("child", 6)],
+    }
+    kind, at, out = int(bits[:3], 2), 3, {}
+    for name, size in layout.get(kind, []):
+        out[name] = int(bits[at:at + size], 2)
+        at += size
+    out["rest"] = int(bits[at:] or "0", 2)
+    return kind, out
+
+
+def children(w):
+    kind, f = word_fields(w)
+    return [f[name] for name in ("child", "left", "right") if name in f]
+
+
+def used_terms(w):
+    kind, f = word_fields(w)
+    if kind == 1:
+        return [f["t0"], f["t1"], f["t2"], f["t3"]][: f["count"]]
+    return [f["term"]] if kind == 2 else []
+
+
+def free(nodes, i):
+    kind, f = word_fields(nodes[i])
+    named = {t for t in used_terms(nodes[i]) if t < 16}
+    if kind == 2:
+        named.add(f["variable"])
+    for c in children(nodes[i]):
+        named |= free(nodes, c)
+    if kind == 6:
+        named.discard(f["variable"])
+    return named
+
+
+def malformed(w):
+    kind, f = word_fields(w)
+    if kind == 7 or f["rest"]:
+        return True
+    return kind == 1 and any([f["t0"], f["t1"], f["t2"], f["t3"]][f["count"]:])
+
+
+def read(data, widths):
+    """('refused', number, place), or ('accepted', columns, constants, nodes)."""
+    if any(w > 4 for w in widths):
+        return "refused", 1, 0
+    if len(data) < 2 or data[0] >> 4 != 1:
+        return "refused", 3, 0
+    header = data[0] << 8 | data[1]
+    n, k = header >> 5 & 127, header & 31
+    if n == 0 or n > 64 or k > 16:
+        return "refused", 4, 0
+    if len(data) != 2 + 4 * k + 4 * n:
+        return "refused", 5, 0
+    words = list(struct.unpack(f">{k + n}I", bytes(data[2:])))
+    constants, nodes = words[:k], words[k:]
+    fields = [c for w in nodes for c in children(w)]
+    faults = [
+        (6, lambda i, w: malformed(w)),
+        (7, lambda i, w: any(c >= i for c in children(w)) or (i != n - 1 and fields.count(i) != 1)),
+        (8, lambda i, w: any(t >= 16 and t - 16 >= k for t in used_terms(w))),
+        (9, lambda i, w: w >> 29 == 1 and (widths[w >> 25 & 15] == 0 or w >> 22 & 7 != widths[w >> 25 & 15])),
+    ]
+    for number, fault in faults:
+        for i, w in enumerate(nodes):
+            if fault(i, w):
+                return "refused", number, i
+    columns = sorted(free(nodes, n - 1))
+    if len(columns) > 4:
+        return "refused", 10, 0
+    return "accepted", columns, constants, nodes
+
+
+# ---- tables, from document 01, "Tables and records"; a record is (relation, four values)
+
+ZERO = (0, 0, 0, 0, 0)
+
+
+def fits(widths, r):
+    return r[0] < 16 and widths[r[0]] > 0 and not any(r[1 + widths[r[0]]:])
+
+
+class Store:
+    def __init__(self, widths, records, count=None):
+        self.widths = list(widths)
+        self.places = list(records) + [ZERO] * (256 - len(records))
+        self.count = len(records) if count is None else count
+
+    def held(self):
+        return self.places[: self.count]
+
+    def judge(self):
+        if any(w > 4 for w in self.widths):
+            return 1
+        held = self.held()
+        right = (
+            self.count <= 256
+            and all(fits(self.widths, r) for r in held)
+            and all(a < b for a, b in zip(held, held[1:]))
+            and all(r == ZERO for r in self.places[self.count:])
+        )
+        return 0 if right else 2
+
+
+def put(s, r):
+    number = s.judge()
+    if not number and not fits(s.widths, r):
+        number = 13
+    if not number and r in s.held():
+        number = 14
+    if not number and s.count >= 256:
+        number = 15
+    return (number, s) if number else (0, Store(s.widths, sorted(s.held() + [r])))
+
+
+def remove(s, r):
+    number = s.judge()
+    if not number and not fits(s.widths, r):
+        number = 13
+    if not number and r not in s.held():
+        number = 16
+    return (number, s) if number else (0, Store(s.widths, [p for p in s.held() if p != r]))
+
+
+def fill(widths, records):
+    none = Store([0] * 16, [])
+    if any(w > 4 for w in widths):
+        return 1, none
+    held = set()
+    for r in records:
+        if not fits(widths, r):
+            return 13, none
+        if r not in held and len(held) >= 256:
+            return 15, none
+        held.add(r)
+    return 0, Store(widths, sorted(held))
+
+
+# ---- the lines that the program writes
+
+def answer_text(number, place=0):
+    return f" refused {number} {place}" if number else " done"
+
+
+def query_text(reply):
+    if reply[0] == "refused":
+        return answer_text(reply[1], reply[2])
+    _, columns, constants, nodes = reply
+    text = " accepted columns" + "".join(f" {c}" for c in columns) + " constants" + "".join(f" {c}" for c in constants)
+    return text + " nodes" + "".join(f" {w:08x}" for w in nodes)
+
+
+def store_text(s):
+    h = 7
+    for v in s.widths + [p[0] for p in s.places] + [v for p in s.places for v in p[1:]]:
+        h = h % 1000003 * 31 + v
+    text = f" count {s.count} sum {h}"
+    if s.count <= 4:
+        text += "".join(" | " + " ".join(map(str, p)) for p in s.held())
+    return text
+
+
+def changed_text(number, s):
+    return answer_text(number) + store_text(s)
+
+
+# ---- cases: (kind, name, body, line)
+
+CASES = []
+
+
+def case(kind, name, body, text):
+    body = bytes(body)
+    CASES.append((kind.encode() + bytes([len(name)]) + struct.pack(">H", len(body)) + name.encode() + body, name + ":" + text))
+
+
+def query_case(name, data, widths=WIDTHS_S, expect=None):
+    reply = read(list(data), widths)
+    if expect is not None:
+        assert reply[:len(expect)] == expect, (name, reply, expect)
+    case("q", name, bytes(widths) + bytes(data), query_text(reply))
+
+
+def pack_record(r):
+    return struct.pack(">BIIII", *r)
+
+
+def pack_store(s, given=None):
+    given = s.places if given is None else given
+    return bytes(s.widths) + struct.pack(">HH", s.count, len(given)) + b"".join(map(pack_record, given))
+
+
+def store_case(kind, name, s, given, r=ZERO, expect=None):
+    number, after = {"s": lambda: (s.judge(), None), "p": lambda: put(s, r), "r": lambda: remove(s, r)}[kind]()
+    if expect is not None:
+        assert number == expect, (name, number, expect)
+    text = answer_text(number) if kind == "s" else changed_text(number, after)
+    case(kind, name, pack_record(r) + pack_store(s, given), text)
+
+
+def fill_case(name, widths, records, expect=None, kind="f"):
+    number, after = fill(widths, records)
+    if expect is not None:
+        assert number == expect, (name, number, expect)
+    case(kind, name, bytes(widths) + b"".join(map(pack_record, records)), changed_text(number, after))
+
+
+def words_bytes(nodes, constants=(), header=None):
+    header = 1 << 12 | len(nodes) << 5 | len(constants) if header is None else header
+    return struct.pack(">H", header) + struct.pack(f">{len(constants) + len(nodes)}I", *constants, *nodes)
+
+
+def chain(n):
+    """1(x) under n - 1 nots."""
+    return [0x22400000] + [3 << 29 | i << 23 for i in range(n - 1)]
+
+
+WORKED = bytes.fromhex("108020801000224000006080000080040000")
+NODES = [0x20801000, 0x22400000, 0x60800000, 0x80040000]
+
+
+def nodes_with(**changes):
+    nodes = list(NODES)
+    for place, w in changes.items():
+        nodes[int(place[1:])] = w
+    return words_bytes(nodes)
+
+
+def equality(x, y):
+    return 2 << 29 | x << 25 | y << 20
+
+
+def joined(leaves):
+    """The leaves joined by and, from the left."""
+    nodes, top = [leaves[0]], 0
+    for leaf in leaves[1:]:
+        nodes += [leaf, 4 << 29 | top << 23 | len(nodes) << 17]
+        top = len(nodes) - 1
+    return nodes
+
+
+def named_query_cases():
+    q, no = query_case, "refused"
+    q("worked query", WORKED, expect=("accepted", [0, 1], [], NODES))
+    q("1: a width of 5", WORKED, [5, 1] + [0] * 14, (no, 1, 0))
+    q("1: the last width 255, before 3", b"", [2, 1] + [0] * 13 + [255], (no, 1, 0))
+    q("3: no bytes", b"", expect=(no, 3, 0))
+    q("3: one byte", WORKED[:1], expect=(no, 3, 0))
+    q("3: version 0", b"\x00" + WORKED[1:], expect=(no, 3, 0))
+    q("3: version 2", b"\x20" + WORKED[1:], expect=(no, 3, 0))
+    q("3: version 15, before 4", b"\xf0\x00", expect=(no, 3, 0))
+    q("4: no nodes", words_bytes([]), expect=(no, 4, 0))
+    q("4: 65 nodes", words_bytes(chain(65), header=1 << 12 | 65 << 5), expect=(no, 4, 0))
+    q("4: 127 nodes, before 5", struct.pack(">H", 1 << 12 | 127 << 5), expect=(no, 4, 0))
+    q("4: 17 constants", words_bytes([equality(0, 16)], range(17)), expect=(no, 4, 0))
+    q("64 nodes", words_bytes(chain(64)), expect=("accepted", [0], []))
+    q("16 constants", words_bytes([equality(0, 31)], range(16)), expect=("accepted", [0], list(range(16))))
+    q("equal constants, not all used", words_bytes([equality(0, 16)], [7, 7, 9]), expect=("accepted", [0], [7, 7, 9]))
+    q("5: a byte short", WORKED[:-1], expect=(no, 5, 0))
+    q("5: a byte long", WORKED + b"\x00", expect=(no, 5, 0))
+    q("5: header alone", WORKED[:2], expect=(no, 5, 0))
+    q("6: kind 7", nodes_with(n1=0xE0000000), expect=(no, 6, 1))
+    q("6: a low bit of a record", nodes_with(n0=0x20801001), expect=(no, 6, 0))
+    q("6: an unused term of a record", nodes_with(n1=0x22400000 | 1 << 12), expect=(no, 6, 1))
+    q("6: a low bit of a not", nodes_with(n2=0x60800001), expect=(no, 6, 2))
+    q("6: a low bit of an and", nodes_with(n3=0x80040000 | 1 << 16), expect=(no, 6, 3))
+    q("6: a low bit of a truth", words_bytes([1 << 27]), expect=(no, 6, 0))
+    q("6: a low bit of an equality", words_bytes([equality(0, 1) | 1 << 19]), expect=(no, 6, 0))
+    q("6: a low bit of an exists", words_bytes([0x22400000, 6 << 29 | 1 << 18]), expect=(no, 6, 1))
+    q("6: the lowest of two", nodes_with(n1=0xE0000000, n3=0xE0000000), expect=(no, 6, 1))
+    q("6: term count 0, a term set", nodes_with(n1=0x22000000 | 1 << 17), expect=(no, 6, 1))
+    q("6 at node 3 before 7 at node 0", words_bytes([3 << 29, 0x22400000, 0x60800000, 0xE0000000]), expect=(no, 6, 3))
+    q("7: its own child", nodes_with(n2=3 << 29 | 2 << 23), expect=(no, 7, 1))
+    q("7: a child above", nodes_with(n2=3 << 29 | 3 << 23), expect=(no, 7, 1))
+    q("7: a child past the last", nodes_with(n3=4 << 29 | 0 << 23 | 63 << 17), expect=(no, 7, 2))
+    q("7: a child twice", nodes_with(n3=4 << 29 | 2 << 23 | 2 << 17), expect=(no, 7, 0))
+    q("7: the root not above its child", words_bytes([3 << 29]), expect=(no, 7, 0))
+    q("7: two trees", words_bytes([0x22400000, 0x22400000]), expect=(no, 7, 0))
+    q("7: a field upward counts", words_bytes([3 << 29 | 1 << 23, 0x22400000, 3 << 29 | 0 << 23]), expect=(no, 7, 0))
+    q("8: constant 0 of none", nodes_with(n1=0x22400000 | 16 << 17), expect=(no, 8, 1))
+    q("8: constant 15 of 15", words_bytes([equality(0, 31)], range(15)), expect=(no, 8, 0))
+    q("8: in the last term", nodes_with(n0=0x20801000 | 1 << 16), expect=(no, 8, 0))
+    q("7 at node 3 before 8 at node 0", words_bytes([0x20801000 | 1 << 16, 0x22400000, 0x60800000, 4 << 29 | 0 << 23 | 3 << 17]), expect=(no, 7, 2))
+    q("8 at node 1 before 9 at node 0", words_bytes([0x2E801000, 0x22400000 | 16 << 17, 0x60800000, 0x80040000]), expect=(no, 8, 1))
+    q("8: the fourth of term count 7", words_bytes([1 << 29 | 7 << 22 | 16 << 2]), expect=(no, 8, 0))
+    q("9: a relation absent", nodes_with(n1=0x2E400000), expect=(no, 9, 1))
+    q("9: one term of two", nodes_with(n0=0x20400000), expect=(no, 9, 0))
+    q("9: term count 0", nodes_with(n1=0x22000000), expect=(no, 9, 1))
+    q("9: term count 7", words_bytes([1 << 29 | 7 << 22]), expect=(no, 9, 0))
+    q("9: the lowest of two", nodes_with(n0=0x20400000, n1=0x2E400000), expect=(no, 9, 0))
+    wide = [4] * 16
+    q("4 free variables", words_bytes([1 << 29 | 4 << 22 | 3 << 17 | 7 << 12 | 11 << 7 | 15 << 2]), wide, ("accepted", [3, 7, 11, 15]))
+    q("10: 5 free variables", words_bytes(joined([equality(0, 1), equality(2, 3), equality(4, 4)])), expect=(no, 10, 0))
+    q("10: 16 free variables", words_bytes(joined([equality(2 * i, 2 * i + 1) for i in range(8)])), expect=(no, 10, 0))
+    bound = joined([equality(0, 1), equality(2, 3), equality(4, 4)])
+    q("5 variables, one bound", words_bytes(bound + [6 << 29 | 4 << 25 | (len(bound) - 1) << 19]), expect=("accepted", [0, 1, 2, 3]))
+    q("true", words_bytes([1 << 28]), expect=("accepted", []))
+
+
+def random_query_cases(rng, number):
+    for i in range(number):
+        n = rng.randint(1, 7)
+        k = rng.choice([0, 0, 1, 2])
+        nodes, loose = [], []
+        for j in range(n):
+            kind = rng.choice([0, 1, 1, 2, 2, 3, 4, 5, 6, 6])
+            if kind >= 3 and not loose or kind in (4, 5) and len(loose) < 2:
+                kind = 1
+            variable, term = rng.randint(0, 5), lambda: rng.choice([0, 1, 2, 3, 15, 16, 17])
+            if kind == 0:
+                nodes.append(rng.randint(0, 1) << 28)
+            elif kind == 1:
+                r = rng.randint(0, 1)
+                ts = [term() for _ in range(2 - r)]
+                nodes.append(1 << 29 | r << 25 | len(ts) << 22 | sum(t << 17 - 5 * at for at, t in enumerate(ts)))
+            elif kind == 2:
+                nodes.append(equality(variable, term()))
+            elif kind == 3:
+                nodes.append(3 << 29 | loose.pop() << 23)
+            elif kind == 6:
+                nodes.append(6 << 29 | variable << 25 | loose.pop() << 19)
+            else:
+                right, left = loose.pop(), loose.pop()
+                nodes.append(kind << 29 | left << 23 | right << 17)
+            loose.append(j)
+        data = bytearray(words_bytes(nodes, [rng.randint(0, 9) for _ in range(k)]))
+        for _ in range(rng.choice([0, 0, 1, 1, 2])):
+            data[rng.randrange(len(data))] ^= 1 << rng.randrange(8)
+        query_case(f"random query {i}", data)
+
+
+def store_cases():
+    s = Store(WIDTHS_S, [(0, 7, 3, 0, 0), (0, 9, 3, 0, 0), (1, 7, 0, 0, 0)])
+    few = lambda: Store(WIDTHS_S, s.held())
+    three = s.held()
+    store_case("s", "store S", s, three, expect=0)
+    store_case("s", "no records", Store(WIDTHS_S, []), [], expect=0)
+    store_case("s", "1: a width of 5", Store([2, 5] + [0] * 14, three), three, expect=1)
+    store_case("s", "1 before 2", Store([2, 1, 9] + [0] * 13, three, 300), three, expect=1)
+    store_case("s", "2: count 257", Store(WIDTHS_S, three, 257), three, expect=2)
+    store_case("s", "2: count 65535", Store(WIDTHS_S, three, 65535), three, expect=2)
+    bad = [(0, 7, 3, 0, 0), (2, 9, 0, 0, 0)]
+    store_case("s", "2: a relation absent", Store(WIDTHS_S, bad), bad, expect=2)
+    bad = [(0, 7, 3, 0, 0), (16, 9, 0, 0, 0)]
+    store_case("s", "2: relation 16", Store(WIDTHS_S, bad), bad, expect=2)
+    bad = [(0, 7, 3, 0, 0), (1, 7, 1, 0, 0)]
+    store_case("s", "2: a value past the width", Store(WIDTHS_S, bad), bad, expect=2)
+    bad = [(0, 7, 3, 0, 1)]
+    store_case("s", "2: the fourth value past the width", Store(WIDTHS_S, bad), bad, expect=2)
+    bad = [three[1], three[0], three[2]]
+    store_case("s", "2: not ascending", Store(WIDTHS_S, bad), bad, expect=2)
+    bad = [three[0], three[0]]
+    store_case("s", "2: a record twice", Store(WIDTHS_S, bad), bad, expect=2)
+    store_case("s", "2: a place past the count", Store(WIDTHS_S, three, 2), three, expect=2)
+    store_case("s", "2: a blank record counted", Store(WIDTHS_S, three, 4), three, expect=2)
+    tail = three + [ZERO] * 252 + [(0, 0, 0, 0, 1)]
+    store_case("s", "2: the last place", Store(WIDTHS_S, tail, 3), tail, expect=2)
+
+    store_case("p", "put first", few(), three, (0, 7, 2, 0, 0), expect=0)
+    store_case("p", "put between", few(), three, (0, 8, 4294967295, 0, 0), expect=0)
+    store_case("p", "put last", few(), three, (1, 8, 0, 0, 0), expect=0)
+    store_case("p", "put into none", Store(WIDTHS_S, []), [], (1, 0, 0, 0, 0), expect=0)
+    store_case("p", "put: 1", Store([5] * 16, three), three, (1, 8, 0, 0, 0), expect=1)
+    store_case("p", "put: 2", Store(WIDTHS_S, three, 2), three, (1, 8, 0, 0, 0), expect=2)
+    store_case("p", "put: 13, relation absent", few(), three, (2, 8, 0, 0, 0), expect=13)
+    store_case("p", "put: 13, relation 16", few(), three, (16, 0, 0, 0, 0), expect=13)
+    store_case("p", "put: 13, relation 255", few(), three, (255, 0, 0, 0, 0), expect=13)
+    store_case("p", "put: 13, a value past the width", few(), three, (1, 8, 0, 0, 1), expect=13)
+    store_case("p", "put: 13, the second value", few(), three, (1, 8, 1, 0, 0), expect=13)
+    store_case("p", "put: 14", few(), three, (0, 9, 3, 0, 0), expect=14)
+    for i, r in enumerate(three):
+        store_case("r", f"removal {i}", few(), three, r, expect=0)
+    store_case("r", "removal: 1", Store([5] * 16, three), three, three[0], expect=1)
+    store_case("r", "removal: 2", Store(WIDTHS_S, three, 2), three, three[0], expect=2)
+    store_case("r", "removal: 13", few(), three, (3, 0, 0, 0, 0), expect=13)
+    store_case("r", "removal: 16", few(), three, (0, 7, 4, 0, 0), expect=16)
+    store_case("r", "removal: 16 of none", Store(WIDTHS_S, []), [], (1, 7, 0, 0, 0), expect=16)
+
+    full = Store(WIDTHS_S, [(0, i, i % 5, 0, 0) for i in range(256)])
+    store_case("s", "256 records", full, full.places, expect=0)
+    store_case("p", "put: 15 at 256 records", full, full.places, (1, 1, 0, 0, 0), expect=15)
+    store_case("p", "put: 14 at 256 records", full, full.places, (0, 255, 0, 0, 0), expect=14)
+    store_case("r", "removal at 256 records", full, full.places, (0, 100, 0, 0, 0), expect=0)
+    most = Store(WIDTHS_S, [(0, i, 1, 0, 0) for i in range(1, 256)])
+    store_case("p", "put of the 256th, first", most, most.held(), (0, 0, 1, 0, 0), expect=0)
+
+
+def fill_cases():
+    a, b, c = (0, 7, 3, 0, 0), (0, 9, 3, 0, 0), (1, 7, 0, 0, 0)
+    fill_case("fill in order", WIDTHS_S, [a, b, c], 0)
+    fill_case("fill in another order", WIDTHS_S, [c, a, b], 0)
+    fill_case("fill with repeats", WIDTHS_S, [b, a, b, a, a], 0)
+    fill_case("fill from none", WIDTHS_S, [], 0)
+    fill_case("fill: 1, before 13", [9] * 16, [(16, 0, 0, 0, 0)], 1)
+    fill_case("fill: 13", WIDTHS_S, [a, (5, 0, 0, 0, 0), b], 13)
+    fill_case("fill: 13 last", WIDTHS_S, [a, b, (1, 7, 7, 0, 0)], 13)
+    eight = [c, b, a, b, (0, 8, 0, 0, 0), c, (1, 4294967295, 0, 0, 0), (0, 7, 2, 0, 0)]
+    fill_case("lent list", WIDTHS_S, eight, 0, "l")
+    fill_case("lent list of one record eight times", WIDTHS_S, [b] * 8, 0, "l")
+    fill_case("lent list: 1", [9] * 16, eight, 1, "l")
+    fill_case("lent list: 13", WIDTHS_S, eight[:7] + [(16, 0, 0, 0, 0)], 13, "l")
+    many = [(0, i, 0, 0, 0) for i in range(257)]
+    fill_case("fill of 256 backward, and a repeat", WIDTHS_S, many[255::-1] + many[:1], 0)
+    fill_case("fill: 15 at 257, before 13", WIDTHS_S, many + [(9, 0, 0, 0, 0)], 15)
+    fill_case("fill: 13 at 257, before 15", WIDTHS_S, many[:256] + [(9, 0, 0, 0, 0)] + many[256:], 13)
+
+
+def main():
+    rng = random.Random(20261115)
+    named_query_cases()
+    store_cases()
+    fill_cases()
+    room = 65000 - sum(len(c[0]) for c in CASES)
+    random_query_cases(rng, room // 75)
+    given = b"".join(c[0] for c in CASES)
+    wanted = "".join(c[1] + "\n" for c in CASES)
+    assert len(given) < 65536, len(given)
+    here = pathlib.Path(__file__).resolve().parent.parent / "crates" / "trials"
+    if sys.argv[1:] == ["--write"]:
+        (here / "stdin").write_bytes(given)
+        (here / "stdout").write_text(wanted)
+    elif (here / "stdin").read_bytes() != given or (here / "stdout").read_text() != wanted:
+        print("trials: crates/trials/stdin and stdout are not what document 01's account gives; tests/trials.py --write")
+        return 1
+    causes = sorted({int(line.split(" refused ")[1].split()[0]) for line in wanted.splitlines() if " refused " in line})
+    print(f"trials: {len(CASES)} cases, causes {causes}")
+    return 0
+
+
+if __name__ == "__main__":
+    sys.exit(main())
