@@ -1,40 +1,51 @@
 #!/usr/bin/env python3
-"""Names that an antt file of crates/ brings in by a `use` line and never uses.
+"""Names that a file of crates/ brings in and never uses: by a `use` line of an antt file, or by a `use` or `ghost use` line of the source.
 
 imports.py          lists them and exits 1 if there are any
-imports.py --fix    drops them from the `use` lines
+imports.py --fix    drops them from those lines
 """
 import pathlib
 import re
 import sys
 
+KINDS = {
+    # suffix: (how a line that brings names in starts, what a comment starts with)
+    ".antt": (r"(use )", "--"),
+    ".rt": (r"((?:pub )?use |ghost use )", "//"),
+}
+
 
 def used(name, tokens):
-    parts = [p for p in name.split("_") if p] if "_" in name else [name]
+    parts = [p for p in name.split("_") if p] if "_" in name and name not in tokens else [name]
     return all(p in tokens for p in parts)
 
 
-def unused(text):
-    body = "\n".join(l for l in text.split("\n") if not l.startswith("use "))
-    tokens = set(re.split(r"[\s(){}.;,]+", re.sub(r"--.*", "", body)))
-    for line in text.split("\n"):
-        match = re.fullmatch(r"use (.*)\.\{(.*)\}", line)
+def unused(text, start, comment):
+    lines = text.split("\n")
+    body = "\n".join(l for l in lines if not re.match(start, l))
+    code = re.sub(comment + r".*", "", body)
+    tokens = set(re.split(r"[\s(){}.;,]+", code)) | set(re.split(r"[^\w]+", code))
+    for line in lines:
+        match = re.fullmatch(start + r"(.*)\.\{(.*)\}(;?)", line)
+        single = re.fullmatch(start + r"(?:.*::)?(\w+);", line)
         if match:
-            names = match[2].split(", ")
+            names = match[3].split(", ")
             idle = [n for n in names if not used(n.split(" as ")[-1], tokens)]
             if idle:
-                yield line, match[1], names, idle
+                kept = [n for n in names if n not in idle]
+                yield line, idle, f"{match[1]}{match[2]}.{{{', '.join(kept)}}}{match[4]}\n" if kept else ""
+        elif single and not line.startswith("pub ") and not used(single[2], tokens):
+            yield line, [single[2]], ""
 
 
 def main():
     fix = "--fix" in sys.argv
     found = 0
-    for path in sorted(pathlib.Path("crates").rglob("*.antt")):
+    for path in sorted(p for p in pathlib.Path("crates").rglob("*") if p.suffix in KINDS):
         text = path.read_text()
-        for line, module, names, idle in list(unused(text)):
-            kept = [n for n in names if n not in idle]
+        for line, idle, mended in list(unused(text, *KINDS[path.suffix])):
             if fix:
-                text = text.replace(line + "\n", f"use {module}.{{{', '.join(kept)}}}\n" if kept else "")
+                text = text.replace(line + "\n", mended)
             else:
                 print(f"{path}: not used: {', '.join(idle)}")
             found += 1

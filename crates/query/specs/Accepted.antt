@@ -4,8 +4,10 @@ use mathlib.Core.Path.{_≡_}
 use mathlib.Core.Bool.{false}
 use mathlib.Core.List.{List}
 use lib.ListN.{getD}
+use lib.Dec.{T}
 use Rattle.calculus.specs.Sets.{In}
 use Rattle.calculus.specs.Formula.{size}
+use Rattle.causes.specs.Causes.{widths-fit}
 use Rattle.query.specs.declared.Query.{Query}
 use Rattle.query.specs.Nodes.{children, uses, malformed, strays, mismatched}
 use Rattle.query.specs.Packing.{Packable}
@@ -16,6 +18,7 @@ pub mod Laws
 
 -- For relations of the widths ws.
 pub record Accepted (ws : List ℕ) (q : Query) : Type 0 where
+  pub widths-right : T (widths-fit ws)
   pub some-node : 1 ≤ q .«node_count»
   pub few-nodes : q .«node_count» ≤ max-nodes
   pub few-constants : q .«constant_count» ≤ max-constants

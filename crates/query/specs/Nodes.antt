@@ -7,6 +7,7 @@ use lib.ListN.{length, getD, take, drop}
 use lib.Dec.{eqb, leb}
 use Rattle.calculus.specs.Sets.{any-of, union-of}
 use Rattle.calculus.specs.Lists.{tabulate}
+pub mod Sums
 pub mod Laws
 
 -- ---- the fields

@@ -1,5 +1,9 @@
 // The free variables of a packed query, and its columns.
+use crate::COLUMNS;
 use crate::Columns;
+use crate::NODES;
+use crate::VARIABLES;
+ghost use Rattle.query.specs.Reading.{max-nodes};
 ghost use mathlib.Core.Path.{_≡_};
 ghost use mathlib.Core.Bool.{false};
 ghost use mathlib.Core.List.{[], _∷_};
@@ -40,7 +44,7 @@ fn among(x: u32, count: u32, a: u32, b: u32, c: u32, d: u32) -> bool
 }
 
 // Whether variable x is free in a node, given of which nodes before it that holds.
-fn free_in_node(w: u32, x: u32, before: &[bool; 64]) -> bool
+fn free_in_node(w: u32, x: u32, before: &[bool; NODES]) -> bool
     ensures { λ r. ⌜ r ≡ free-in x w (λ c. getD (now (before .entry)) c false) ⌝ }
 {
     let kind = w / 536870912;
@@ -66,13 +70,13 @@ fn free_in_node(w: u32, x: u32, before: &[bool; 64]) -> bool
 }
 
 // Whether variable x is free in the query.
-fn is_free(nodes: &[u32; 64], n: usize, x: u32) -> bool
-    requires { ⌜ (1 ≤ n) × (n ≤ 64) × (x < 16) ⌝ }
+fn is_free(nodes: &[u32; NODES], n: usize, x: u32) -> bool
+    requires { ⌜ (1 ≤ n) × (n ≤ max-nodes) × (x < 16) ⌝ }
     ensures { λ r. ⌜ r ≡ member x (fv (root (take n (now (nodes .entry))))) ⌝ }
 {
     // As a slice: that gives the proof the length.
     let all: &[u32] = nodes;
-    let mut free = [false; 64];
+    let mut free = [false; NODES];
     let mut i = 0;
     while i < n {
         let here = free_in_node(all[i], x, &free);
@@ -83,16 +87,16 @@ fn is_free(nodes: &[u32; 64], n: usize, x: u32) -> bool
 }
 
 // The free variables of the query, ascending: their number, and the first four of them.
-pub fn columns(nodes: &[u32; 64], n: usize) -> Columns
-    requires { ⌜ (1 ≤ n) × (n ≤ 64) ⌝ }
+pub fn columns(nodes: &[u32; NODES], n: usize) -> Columns
+    requires { ⌜ (1 ≤ n) × (n ≤ max-nodes) ⌝ }
     ensures { λ c. ⌜ c ≡ columns-found (columns-read (root (take n (now (nodes .entry))))) ⌝ }
 {
-    let mut variables = [0u8; 4];
+    let mut variables = [0u8; COLUMNS];
     let mut count = 0;
     let mut x: u8 = 0;
-    while x < 16 {
+    while x < VARIABLES {
         if is_free(nodes, n, x as u32) {
-            if count < 4 {
+            if count < COLUMNS {
                 variables[count] = x;
             }
             count += 1;

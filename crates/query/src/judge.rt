@@ -1,17 +1,20 @@
 // The causes of a packed query, in order: 1, 3, 4, 5 of its header, then 6 to 9, each over all nodes.
+use crate::CONSTANTS;
+use crate::NODES;
 use crate::node;
 use crate::unpack;
 use causes::Answer;
+use causes::RELATIONS;
 ghost use mathlib.Core.Path.{_≡_};
 ghost use Prim.Native.Nat.{ℕ, _+_, _≤_, _<_};
 ghost use lib.ListN.{length, getD, set, take};
 ghost use Rattle.calculus.specs.Lists.{tabulate};
 ghost use Rattle.causes.specs.Causes.{first-cause, lowest};
 ghost use Rattle.query.specs.Nodes.{uses, counted-with};
-ghost use Rattle.query.specs.Reading.{header-checks, tree-checks, node-fault, found-at};
+ghost use Rattle.query.specs.Reading.{max-nodes, max-constants, header-checks, tree-checks, node-fault, found-at};
 
 // Causes 1, 3, 4 and 5.
-pub fn header(bytes: &[u8], widths: [u8; 16]) -> Answer
+pub fn header(bytes: &[u8], widths: [u8; RELATIONS]) -> Answer
     ensures { λ a. ⌜ a ≡ first-cause (header-checks widths (now (bytes .entry))) ⌝ }
 {
     if !causes::widths_are_right(widths) {
@@ -29,10 +32,10 @@ pub fn header(bytes: &[u8], widths: [u8; 16]) -> Answer
     if n == 0 {
         return Answer::Refused(4, 0);
     }
-    if 64 < n {
+    if NODES < n {
         return Answer::Refused(4, 0);
     }
-    if 16 < k {
+    if CONSTANTS < k {
         return Answer::Refused(4, 0);
     }
     if length != 2 + 4 * k + 4 * n {
@@ -42,7 +45,7 @@ pub fn header(bytes: &[u8], widths: [u8; 16]) -> Answer
 }
 
 // One more use of node c.
-fn bump(counts: &mut [u8; 64], c: usize)
+fn bump(counts: &mut [u8; NODES], c: usize)
     requires { ⌜ (c < 64) × (getD (now counts) c 0 < 255) ⌝ }
     ensures { λ _. ⌜ now (counts .exit) ≡ set (now (counts .entry)) c (getD (now (counts .entry)) c 0 + 1) ⌝ }
 {
@@ -50,7 +53,7 @@ fn bump(counts: &mut [u8; 64], c: usize)
 }
 
 // The uses by the child fields of one node more.
-fn count(counts: &mut [u8; 64], w: u32)
+fn count(counts: &mut [u8; NODES], w: u32)
     requires { ⌜ ((c : ℕ) → c < 64 → getD (now counts) c 0 < 254) ⌝ }
     ensures { λ _. ⌜ now (counts .exit) ≡ counted-with (now (counts .entry)) w ⌝ }
 {
@@ -72,13 +75,13 @@ fn count(counts: &mut [u8; 64], w: u32)
 }
 
 // How often each node is a child.
-fn count_uses(nodes: &[u32; 64], n: usize) -> [u8; 64]
-    requires { ⌜ n ≤ 64 ⌝ }
-    ensures { λ r. ⌜ r ≡ tabulate (uses (take n (now (nodes .entry)))) 64 ⌝ }
+fn count_uses(nodes: &[u32; NODES], n: usize) -> [u8; NODES]
+    requires { ⌜ n ≤ max-nodes ⌝ }
+    ensures { λ r. ⌜ r ≡ tabulate (uses (take n (now (nodes .entry)))) max-nodes ⌝ }
 {
     // As a slice: that gives the proof the length.
     let all: &[u32] = nodes;
-    let mut counts = [0u8; 64];
+    let mut counts = [0u8; NODES];
     let mut i = 0;
     while i < n {
         count(&mut counts, all[i]);
@@ -90,15 +93,15 @@ fn count_uses(nodes: &[u32; 64], n: usize) -> [u8; 64]
 // Whether node i meets a cause, from 6 to 9.
 fn has_fault<'a>(
     cause: u8,
-    nodes: &'a [u32; 64],
+    nodes: &'a [u32; NODES],
     n: usize,
-    counts: &'a [u8; 64],
+    counts: &'a [u8; NODES],
     constants: usize,
-    widths: &'a [u8; 16],
+    widths: &'a [u8; RELATIONS],
     i: usize,
 ) -> bool
-    requires { ⌜ (6 ≤ cause) × (i < n) × (n ≤ 64) × (constants ≤ 16) ⌝ }
-    requires { ⌜ now counts ≡ tabulate (uses (take n (now nodes))) 64 ⌝ }
+    requires { ⌜ (6 ≤ cause) × (i < n) × (n ≤ max-nodes) × (constants ≤ max-constants) ⌝ }
+    requires { ⌜ now counts ≡ tabulate (uses (take n (now nodes))) max-nodes ⌝ }
     ensures { λ r. ⌜ r ≡ node-fault cause (now (widths .entry)) constants (take n (now (nodes .entry))) i ⌝ }
 {
     // As a slice: that gives the proof the length.
@@ -124,14 +127,14 @@ fn has_fault<'a>(
 // The lowest node that meets a cause, from 6 to 9; n where none does.
 fn lowest_fault<'a>(
     cause: u8,
-    nodes: &'a [u32; 64],
+    nodes: &'a [u32; NODES],
     n: usize,
-    counts: &'a [u8; 64],
+    counts: &'a [u8; NODES],
     constants: usize,
-    widths: &'a [u8; 16],
+    widths: &'a [u8; RELATIONS],
 ) -> usize
-    requires { ⌜ (6 ≤ cause) × (n ≤ 64) × (constants ≤ 16) ⌝ }
-    requires { ⌜ now counts ≡ tabulate (uses (take n (now nodes))) 64 ⌝ }
+    requires { ⌜ (6 ≤ cause) × (n ≤ max-nodes) × (constants ≤ max-constants) ⌝ }
+    requires { ⌜ now counts ≡ tabulate (uses (take n (now nodes))) max-nodes ⌝ }
     ensures { λ r. ⌜ (r ≤ n) × (found-at r n ≡ lowest (node-fault cause (now (widths .entry)) constants (take n (now (nodes .entry)))) n) ⌝ }
 {
     let mut i = 0;
@@ -145,8 +148,13 @@ fn lowest_fault<'a>(
 }
 
 // Causes 6 to 9, each over all nodes.
-pub fn tree<'a>(nodes: &'a [u32; 64], n: usize, constants: usize, widths: &'a [u8; 16]) -> Answer
-    requires { ⌜ (n ≤ 64) × (constants ≤ 16) ⌝ }
+pub fn tree<'a>(
+    nodes: &'a [u32; NODES],
+    n: usize,
+    constants: usize,
+    widths: &'a [u8; RELATIONS],
+) -> Answer
+    requires { ⌜ (n ≤ max-nodes) × (constants ≤ max-constants) ⌝ }
     ensures { λ a. ⌜ a ≡ first-cause (tree-checks (now (widths .entry)) constants (take n (now (nodes .entry)))) ⌝ }
 {
     // As a slice: that gives the proof the length.

@@ -9,20 +9,30 @@ pub mod node;
 pub mod unpack;
 
 use causes::Answer;
+use causes::RELATIONS;
 ghost use mathlib.Core.Path.{_≡_};
 ghost use Rattle.query.specs.Reading.{read-of, refusal};
 
+// The limits of a query: its nodes, constants and columns. Variables are numbered from 0.
+pub const NODES: usize = 64;
+
+pub const CONSTANTS: usize = 16;
+
+pub const COLUMNS: usize = 4;
+
+pub const VARIABLES: u8 = 16;
+
 // An accepted query: its constants and nodes, with zeros in the places past the counts.
 pub struct Query {
-    pub constants: [u32; 16],
+    pub constants: [u32; CONSTANTS],
     pub constant_count: usize,
-    pub nodes: [u32; 64],
+    pub nodes: [u32; NODES],
     pub node_count: usize,
 }
 
 // The free variables of a query as read, ascending, with zeros in the places past the count.
 pub struct Columns {
-    pub variables: [u8; 4],
+    pub variables: [u8; COLUMNS],
     pub count: usize,
 }
 
@@ -38,13 +48,13 @@ fn refused(number: u8, place: u8) -> Reading
     ensures { λ r. ⌜ r ≡ refusal number place ⌝ }
 {
     let query = Query {
-        constants: [0u32; 16],
+        constants: [0u32; CONSTANTS],
         constant_count: 0,
-        nodes: [0u32; 64],
+        nodes: [0u32; NODES],
         node_count: 0,
     };
     let columns = Columns {
-        variables: [0u8; 4],
+        variables: [0u8; COLUMNS],
         count: 0,
     };
     Reading {
@@ -55,7 +65,7 @@ fn refused(number: u8, place: u8) -> Reading
 }
 
 // The query that the bytes hold, for relations of these widths: causes 1 and 3 to 10.
-pub fn read(bytes: &[u8], widths: [u8; 16]) -> Reading
+pub fn read(bytes: &[u8], widths: [u8; RELATIONS]) -> Reading
     ensures { λ r. ⌜ r ≡ read-of widths (now (bytes .entry)) ⌝ }
 {
     let header = judge::header(bytes, widths);
@@ -64,9 +74,9 @@ pub fn read(bytes: &[u8], widths: [u8; 16]) -> Reading
     }
     let n = unpack::node_count(bytes);
     let k = unpack::constant_count(bytes);
-    let mut constants = [0u32; 16];
+    let mut constants = [0u32; CONSTANTS];
     unpack::words(bytes, 2, k, &mut constants);
-    let mut nodes = [0u32; 64];
+    let mut nodes = [0u32; NODES];
     unpack::words(bytes, 2 + 4 * k, n, &mut nodes);
     let tree = judge::tree(&nodes, n, k, &widths);
     if let Answer::Refused(number, place) = tree {
@@ -74,7 +84,7 @@ pub fn read(bytes: &[u8], widths: [u8; 16]) -> Reading
     }
     let columns = free::columns(&nodes, n);
     let width = columns.count;
-    if 4 < width {
+    if COLUMNS < width {
         return refused(10, 0);
     }
     let query = Query {

@@ -1,4 +1,5 @@
 // The faults of one node: causes 6 to 9. A node's first 3 bits are its kind; its fields follow, most significant first.
+use causes::RELATIONS;
 ghost use mathlib.Core.Path.{_≡_};
 ghost use Prim.Native.Nat.{_<_};
 ghost use mathlib.Core.List.{[], _∷_};
@@ -136,7 +137,7 @@ pub fn has_stray(constants: u32, w: u32) -> bool
 }
 
 // Cause 9: a relation absent, or a term count that is not its width.
-pub fn is_mismatched(widths: &[u8; 16], w: u32) -> bool
+pub fn is_mismatched(widths: &[u8; RELATIONS], w: u32) -> bool
     ensures { λ r. ⌜ r ≡ mismatched (now (widths .entry)) w ⌝ }
 {
     let kind = w / 536870912;

@@ -1,7 +1,9 @@
 // One record put or removed: causes 1, 2 and 13 to 16. The store goes in and comes back by value, on a refusal as it was.
 use crate::Changed;
+use crate::PLACES;
 use crate::Record;
 use crate::Store;
+use crate::VALUES;
 use crate::layout;
 use crate::order;
 use crate::place;
@@ -9,17 +11,17 @@ use causes::Answer;
 ghost use mathlib.Core.Path.{_≡_};
 ghost use Prim.Native.Nat.{_+_, _-_, _≤_, _<_};
 ghost use lib.ListN.{take};
-ghost use Rattle.tables.specs.Store.{places, places-of, of-places};
+ghost use Rattle.tables.specs.Store.{capacity, places, places-of, of-places};
 ghost use Rattle.tables.specs.Change.{rank, found, raised, lowered, insertion, deletion, put-reply, removal-reply};
 
 // The number of records below r that stand before any other, among the first count.
 pub fn rank_of<'a>(
-    relations: &'a [u8; 256],
-    values: &'a [u32; 1024],
+    relations: &'a [u8; PLACES],
+    values: &'a [u32; VALUES],
     count: usize,
     r: Record,
 ) -> usize
-    requires { ⌜ count ≤ 256 ⌝ }
+    requires { ⌜ count ≤ capacity ⌝ }
     ensures { λ k. ⌜ k ≡ rank r (take count (places (now (relations .entry)) (now (values .entry)))) ⌝ }
 {
     let mut i = 0;
@@ -34,13 +36,13 @@ pub fn rank_of<'a>(
 
 // Whether r stands at its place k, which is below 256 for a record held.
 fn found_at<'a>(
-    relations: &'a [u8; 256],
-    values: &'a [u32; 1024],
+    relations: &'a [u8; PLACES],
+    values: &'a [u32; VALUES],
     count: usize,
     k: usize,
     r: Record,
 ) -> bool
-    requires { ⌜ count ≤ 256 ⌝ }
+    requires { ⌜ count ≤ capacity ⌝ }
     requires { ⌜ k ≡ rank r (take count (places (now relations) (now values))) ⌝ }
     ensures { λ b. ⌜ b ≡ found r (take count (places (now (relations .entry)) (now (values .entry)))) ⌝ }
 {
@@ -52,7 +54,7 @@ fn found_at<'a>(
 
 // The store with r at place k, and the records from there on one place up.
 fn raise(s: Store, k: usize, r: Record) -> Store
-    requires { ⌜ (k ≤ 256) × (s .count ≤ 256) ⌝ }
+    requires { ⌜ (k ≤ capacity) × (s .count ≤ capacity) ⌝ }
     ensures { λ t. ⌜ t ≡ of-places (s .widths) (raised (places-of s) k r) (s .count + 1) ⌝ }
 {
     let widths = s.widths;
@@ -61,7 +63,7 @@ fn raise(s: Store, k: usize, r: Record) -> Store
     let mut values = s.values;
     let mut carried = r;
     let mut i = k;
-    while i < 256 {
+    while i < PLACES {
         let next = place::read(&relations, &values, i);
         place::write(&mut relations, &mut values, i, carried);
         carried = next;
@@ -77,7 +79,7 @@ fn raise(s: Store, k: usize, r: Record) -> Store
 
 // The store without the record at place k, those past it one place down, and the last place blank.
 fn lower(s: Store, k: usize) -> Store
-    requires { ⌜ (k < 256) × (0 < s .count) ⌝ }
+    requires { ⌜ (k < capacity) × (0 < s .count) ⌝ }
     ensures { λ t. ⌜ t ≡ of-places (s .widths) (lowered (places-of s) k) (s .count - 1) ⌝ }
 {
     let widths = s.widths;
@@ -112,7 +114,7 @@ fn lower(s: Store, k: usize) -> Store
 
 // Causes 13 to 15 and the put, for a store whose count was judged.
 pub fn insert(s: Store, r: Record) -> Changed
-    requires { ⌜ s .count ≤ 256 ⌝ }
+    requires { ⌜ s .count ≤ capacity ⌝ }
     ensures { λ c. ⌜ c ≡ insertion s r ⌝ }
 {
     let widths = s.widths;
@@ -132,7 +134,7 @@ pub fn insert(s: Store, r: Record) -> Changed
             store: s,
         };
     }
-    if 256 <= count {
+    if PLACES <= count {
         return Changed {
             answer: Answer::Refused(15, 0),
             store: s,
@@ -147,7 +149,7 @@ pub fn insert(s: Store, r: Record) -> Changed
 
 // Causes 13 and 16 and the removal, for a store whose count was judged.
 pub fn delete(s: Store, r: Record) -> Changed
-    requires { ⌜ s .count ≤ 256 ⌝ }
+    requires { ⌜ s .count ≤ capacity ⌝ }
     ensures { λ c. ⌜ c ≡ deletion s r ⌝ }
 {
     let widths = s.widths;

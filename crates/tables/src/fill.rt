@@ -1,10 +1,12 @@
 // A store filled from widths and a lent list of records, in any order: causes 1, 13 and 15. A repeat is kept once.
 use crate::Changed;
+use crate::PLACES;
 use crate::Record;
 use crate::Store;
+use crate::VALUES;
 use crate::change;
-use crate::layout;
 use causes::Answer;
+use causes::RELATIONS;
 ghost use mathlib.Core.Path.{_≡_};
 ghost use Rattle.tables.specs.Fill.{beginning, collected, fill-reply};
 ghost use Rattle.tables.specs.Store.{no-store};
@@ -14,15 +16,15 @@ fn none() -> Store
     ensures { λ s. ⌜ s ≡ no-store ⌝ }
 {
     Store {
-        widths: [0u8; 16],
-        relations: [0u8; 256],
-        values: [0u32; 1024],
+        widths: [0u8; RELATIONS],
+        relations: [0u8; PLACES],
+        values: [0u32; VALUES],
         count: 0,
     }
 }
 
 // A filling before its first record: cause 1.
-pub fn begin(widths: [u8; 16]) -> Changed
+pub fn begin(widths: [u8; RELATIONS]) -> Changed
     ensures { λ c. ⌜ c ≡ beginning widths ⌝ }
 {
     if !causes::widths_are_right(widths) {
@@ -33,8 +35,8 @@ pub fn begin(widths: [u8; 16]) -> Changed
     }
     let s = Store {
         widths,
-        relations: [0u8; 256],
-        values: [0u32; 1024],
+        relations: [0u8; PLACES],
+        values: [0u32; VALUES],
         count: 0,
     };
     Changed {
@@ -43,7 +45,7 @@ pub fn begin(widths: [u8; 16]) -> Changed
     }
 }
 
-// A filling with one record more: causes 13 and 15. One that is refused stays so.
+// A filling with one record more: causes 13 and 15. One that is refused stays so, and so does a store whose count is past the places, which no filling has.
 pub fn collect(f: Changed, r: Record) -> Changed
     ensures { λ c. ⌜ c ≡ collected f r ⌝ }
 {
@@ -53,7 +55,7 @@ pub fn collect(f: Changed, r: Record) -> Changed
     if let Answer::Refused(_, _) = answer {
         return f;
     }
-    if 256 < count {
+    if PLACES < count {
         return f;
     }
     let added = change::insert(s, r);
@@ -73,7 +75,7 @@ pub fn collect(f: Changed, r: Record) -> Changed
 }
 
 // The store of the records of a list.
-pub fn fill(widths: [u8; 16], records: &[Record]) -> Changed
+pub fn fill(widths: [u8; RELATIONS], records: &[Record]) -> Changed
     ensures { λ c. ⌜ c ≡ fill-reply widths (now (records .entry)) ⌝ }
 {
     let mut f = begin(widths);

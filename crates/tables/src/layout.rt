@@ -1,24 +1,26 @@
 // The layout of a store, and of a record: causes 1, 2 and 13.
+use crate::PLACES;
 use crate::Record;
 use crate::Store;
+use crate::VALUES;
 use crate::order;
 use crate::place;
 use causes::Answer;
+use causes::RELATIONS;
 ghost use mathlib.Core.Path.{_≡_};
-ghost use mathlib.Core.Bool.{Bool};
 ghost use Prim.Native.Nat.{_≤_};
 ghost use lib.ListN.{take, drop};
 ghost use Rattle.calculus.specs.Sets.{all-of};
 ghost use Rattle.calculus.specs.Order.{is-ascending};
 ghost use Rattle.tables.specs.Records.{fits, record-below, is-blank};
-ghost use Rattle.tables.specs.Store.{places, judgement};
+ghost use Rattle.tables.specs.Store.{capacity, places, judgement};
 
 // Whether a record is of a present relation and has zeros past its width. Where not, cause 13 is met.
-pub fn record_fits(widths: &[u8; 16], r: Record) -> bool
+pub fn record_fits(widths: &[u8; RELATIONS], r: Record) -> bool
     ensures { λ b. ⌜ b ≡ fits (now (widths .entry)) r ⌝ }
 {
     let relation = r.relation as usize;
-    if 16 <= relation {
+    if RELATIONS <= relation {
         return false;
     }
     let width = widths[relation];
@@ -39,12 +41,12 @@ pub fn record_fits(widths: &[u8; 16], r: Record) -> bool
 
 // Whether each of the first count records fits the widths.
 fn all_fit<'a>(
-    widths: &[u8; 16],
-    relations: &'a [u8; 256],
-    values: &'a [u32; 1024],
+    widths: &[u8; RELATIONS],
+    relations: &'a [u8; PLACES],
+    values: &'a [u32; VALUES],
     count: usize,
 ) -> bool
-    requires { ⌜ count ≤ 256 ⌝ }
+    requires { ⌜ count ≤ capacity ⌝ }
     ensures { λ b. ⌜ b ≡ all-of (fits (now (widths .entry))) (take count (places (now (relations .entry)) (now (values .entry)))) ⌝ }
 {
     let mut i = 0;
@@ -58,8 +60,8 @@ fn all_fit<'a>(
 }
 
 // Whether the first count records are strictly ascending.
-fn all_ascend<'a>(relations: &'a [u8; 256], values: &'a [u32; 1024], count: usize) -> bool
-    requires { ⌜ count ≤ 256 ⌝ }
+fn all_ascend<'a>(relations: &'a [u8; PLACES], values: &'a [u32; VALUES], count: usize) -> bool
+    requires { ⌜ count ≤ capacity ⌝ }
     ensures { λ b. ⌜ b ≡ is-ascending record-below (take count (places (now (relations .entry)) (now (values .entry)))) ⌝ }
 {
     let mut i = 1;
@@ -76,8 +78,8 @@ fn all_ascend<'a>(relations: &'a [u8; 256], values: &'a [u32; 1024], count: usiz
 }
 
 // Whether every place from the count on is zero.
-fn rest_blank<'a>(relations: &'a [u8; 256], values: &'a [u32; 1024], count: usize) -> bool
-    requires { ⌜ count ≤ 256 ⌝ }
+fn rest_blank<'a>(relations: &'a [u8; PLACES], values: &'a [u32; VALUES], count: usize) -> bool
+    requires { ⌜ count ≤ capacity ⌝ }
     ensures { λ b. ⌜ b ≡ all-of is-blank (drop count (places (now (relations .entry)) (now (values .entry)))) ⌝ }
 {
     let blank = Record {
@@ -88,7 +90,7 @@ fn rest_blank<'a>(relations: &'a [u8; 256], values: &'a [u32; 1024], count: usiz
         fourth: 0,
     };
     let mut i = count;
-    while i < 256 {
+    while i < PLACES {
         if !order::same(place::read(relations, values, i), blank) {
             return false;
         }
@@ -108,7 +110,7 @@ pub fn judge(s: Store) -> Answer
     if !causes::widths_are_right(widths) {
         return Answer::Refused(1, 0);
     }
-    if 256 < count {
+    if PLACES < count {
         return Answer::Refused(2, 0);
     }
     if !all_fit(&widths, &relations, &values, count) {

@@ -9,6 +9,12 @@ pub mod order;
 pub mod place;
 
 use causes::Answer;
+use causes::RELATIONS;
+
+// The record places of a store, and the values in them.
+pub const PLACES: usize = 256;
+
+pub const VALUES: usize = 4 * PLACES;
 
 // A relation and four values; those past the relation's width are zero.
 pub struct Record {
@@ -20,9 +26,9 @@ pub struct Record {
 }
 
 pub struct Store {
-    pub widths: [u8; 16],
-    pub relations: [u8; 256],
-    pub values: [u32; 1024],
+    pub widths: [u8; RELATIONS],
+    pub relations: [u8; PLACES],
+    pub values: [u32; VALUES],
     pub count: usize,
 }
 

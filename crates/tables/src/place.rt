@@ -1,13 +1,15 @@
 // A record place, read and written. Everything else looks at the two arrays through these functions.
+use crate::PLACES;
 use crate::Record;
+use crate::VALUES;
 ghost use mathlib.Core.Path.{_≡_};
 ghost use Prim.Native.Nat.{_<_};
-ghost use Rattle.tables.specs.Store.{record-at, set-values};
+ghost use Rattle.tables.specs.Store.{capacity, record-at, set-values};
 ghost use lib.ListN.{set};
 
 // The record at place i.
-pub fn read(relations: &[u8; 256], values: &[u32; 1024], i: usize) -> Record
-    requires { ⌜ i < 256 ⌝ }
+pub fn read(relations: &[u8; PLACES], values: &[u32; VALUES], i: usize) -> Record
+    requires { ⌜ i < capacity ⌝ }
     ensures { λ r. ⌜ r ≡ record-at (now (relations .entry)) (now (values .entry)) i ⌝ }
 {
     Record {
@@ -20,8 +22,8 @@ pub fn read(relations: &[u8; 256], values: &[u32; 1024], i: usize) -> Record
 }
 
 // The record put at place i; every other place stays.
-pub fn write(relations: &mut [u8; 256], values: &mut [u32; 1024], i: usize, r: Record)
-    requires { ⌜ i < 256 ⌝ }
+pub fn write(relations: &mut [u8; PLACES], values: &mut [u32; VALUES], i: usize, r: Record)
+    requires { ⌜ i < capacity ⌝ }
     ensures { λ _. ⌜ (now (relations .exit) ≡ set (now (relations .entry)) i (r .relation)) × (now (values .exit) ≡ set-values (now (values .entry)) i r) ⌝ }
 {
     relations[i] = r.relation;

@@ -9,7 +9,6 @@
 mod lend;
 
 ghost use Prim.Native.Nat.{_≤_, _<_};
-ghost use lib.ListN.{length};
 use causes::Answer;
 use query::Columns;
 use query::Query;

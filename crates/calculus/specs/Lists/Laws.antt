@@ -11,7 +11,7 @@ use Rattle.calculus.specs.Sets.{all-of, any-of, In, here, there, select}
 use Rattle.calculus.specs.Lists.{tabulate, padded}
 use lib.Dec.{T}
 use Rattle.calculus.specs.Reflects.{Reflects, holds, reflects-map, reflects-and}
-use native.Mathlib.Nat.{sub-zero, zero-sub, suc-sub-suc}
+use native.Mathlib.Nat.{sub-zero, zero-sub, suc-sub-suc, zero-add, suc-add}
 
 module _ {A : Type 0} where
   pub length-tabulate : (f : ℕ → A) (n : ℕ) → length (tabulate f n) ≡ n
@@ -136,3 +136,13 @@ module _ {A : Type 0} where
 
   pub padded-tabulate : (f : ℕ → A) (n k : ℕ) (z : A) → tabulate f k ++ drop k (replicate n z) ≡ padded n z (tabulate f k)
   padded-tabulate f n k z = rw (drop-replicate n k z, length-tabulate f k)
+
+-- ---- two functions that agree, and a list in two parts
+
+module _ {A : Type 0} where
+  pub tabulate-same : (f g : ℕ → A) (n : ℕ) → ((i : ℕ) → f i ≡ g i) → tabulate f n ≡ tabulate g n
+  tabulate-same f g n h = λ j. tabulate (λ i. h i j) n
+
+  pub tabulate-append : (f : ℕ → A) (k n : ℕ) → tabulate f (k + n) ≡ tabulate f k ++ tabulate (λ i. f (k + i)) n
+  tabulate-append f zero n = simp zero-add
+  tabulate-append f (suc k) n = simp suc-add (ap (λ l. f zero ∷ l) (tabulate-append (λ i. f (suc i)) k n))

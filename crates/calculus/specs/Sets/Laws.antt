@@ -4,7 +4,7 @@ use native.Mathlib.Nat.{lt-irrefl, le-max-left, le-max-right, lt-of-lt-of-le}
 use mathlib.Core.Path.{_≡_, refl, sym, ap, subst, subst⁻¹}
 use mathlib.Core.Logic.{_↔_, _⊎_, inl, inr, ⊎-elim, _≢_}
 use mathlib.Core.Bool.{Bool, true, false, not, cond}
-use mathlib.Core.List.{List, [], _∷_, _++_, map}
+use mathlib.Core.List.{List, [], _∷_, _++_, map, append-assoc}
 use lib.Dec.{T, eqb}
 use Rattle.calculus.specs.Sets.{Any, In, here, there, _⊆_, any-of, all-of, select, union-of, member, remove, fresh, same-by, same-list}
 use Rattle.calculus.specs.Reflects.{Reflects, holds, fails, reflects, reflected, reflects-map, reflects-not, reflects-and, reflects-or, reflects-eqb}
@@ -87,6 +87,10 @@ from-union {A} f {y} (x ∷ xs) i = ⊎-elim (λ j. (x, here refl, j)) (λ j. la
   where
     later : (z : A) × In z xs × In y (f z) → (z : A) × In z (x ∷ xs) × In y (f z)
     later r = (r .0, there (r .1), r .2)
+
+pub union-append : {A B : Type 0} (f : A → List B) (xs ys : List A) → union-of f (xs ++ ys) ≡ union-of f xs ++ union-of f ys
+union-append f [] ys = refl
+union-append f (x ∷ xs) ys = rw (union-append f xs ys) (sym (append-assoc (f x) (union-of f xs) (union-of f ys)))
 
 -- A choice by a test, as a lemma by cases of the test.
 pub in-cond : {A : Type 0} {x : A} {xs ys : List A} (b : Bool) → In x (cond b xs ys) → (T b × In x xs) ⊎ (T (not b) × In x ys)

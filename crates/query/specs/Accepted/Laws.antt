@@ -12,6 +12,7 @@ use Rattle.calculus.specs.Sets.Laws.{from-map}
 use Rattle.calculus.specs.Lists.Laws.{length-tabulate, or-fails, any-of-false, from-tabulate}
 use Rattle.calculus.specs.Reflects.{Reflects, holds, fails, reflects-T, reflects-false, reflects-eqb}
 use Rattle.calculus.specs.Formula.{Term, var, con, Fmla, rel, size}
+use Rattle.calculus.specs.Satisfaction.{Pool}
 use Rattle.calculus.specs.Generators.{columns}
 use Rattle.causes.specs.declared.Answer.{Answer}
 use Rattle.causes.specs.declared.Answer.the-variants.{Done, Refused}
@@ -21,7 +22,9 @@ use Rattle.query.specs.Nodes.{relation, term-count, terms, variable, equ
 use Rattle.query.specs.Decoding.{term-of, node-formula, formula-at, root}
 use Rattle.query.specs.Decoding.Laws.{Kind, is-truth, is-record, is-equality, is-not, is-and, is-or, is-exists, is-none, kind-of, formula-step}
 use Rattle.query.specs.Reading.{version, max-nodes, max-constants, max-columns, count-of-nodes, count-of-constants, word-at, constants-of, nodes-of, tree-checks, column-checks, read-checks, query-of, columns-of, refusal, accepted, read-reply, read-of, pool, nodes-in, formula}
-use Rattle.query.specs.Packing.{TermFits, var-fits, con-fits, Fits, truth-fits, rel-fits, eq-fits, neg-fits, conj-fits, disj-fits, exists-fits, Packable}
+use Rattle.query.specs.Packing.{words, pack, TermFits, var-fits, con-fits, Fits, truth-fits, rel-fits, eq-fits, neg-fits, conj-fits, disj-fits, exists-fits, Packable}
+use Rattle.query.specs.Packing.Bytes.{bytes-at}
+use Rattle.query.specs.Packing.Laws.{read-pack, pack-small}
 use Rattle.query.specs.Accepted.{Accepted}
 use Rattle.query.specs.Accepted.Size.{root-size}
 
@@ -137,6 +140,7 @@ node-at cs ns i h = List·getD-append ns (replicate (max-nodes - length ns) 0) 0
 
 checked-accepted : (ws cs ns : List ℕ) → Checked ws cs ns → Accepted ws (query-of cs ns)
 checked-accepted ws cs ns c = record {
+  widths-right = c .widths;
   some-node = c .some-node;
   few-nodes = c .few-nodes;
   few-constants = c .few-constants;
@@ -234,3 +238,11 @@ module _ (ws bs : List ℕ) (bytes : (i : ℕ) → getD bs i 0 < 256) (h : read-
 
   pub read-accepted : Accepted ws (read-of ws bs .query)
   read-accepted = subst⁻¹ (λ r. Accepted ws (r .query)) (read-done ws bs h) (checked-accepted ws (constants-of bs) (nodes-of bs) read-checked)
+
+-- ---- the packing of a formula
+
+-- What is packed from a formula within the limits is an accepted query: that of its constants and words.
+pub packed-accepted : (ws : List ℕ) (cs : Pool) (φ : Fmla) → T (widths-fit ws) → Packable ws cs φ → Accepted ws (query-of cs (words φ 0))
+packed-accepted ws cs φ t p =
+    let e = read-pack ws cs φ t p .0 in
+    subst (λ r. Accepted ws (r .query)) e (read-accepted ws (pack cs φ) (bytes-at (pack cs φ) (pack-small ws cs φ t p)) (ap (λ r. r .answer) e))

@@ -4,59 +4,18 @@ use Prim.Native.Nat.{ℕ, zero, suc, _+_, _-_, _<_}
 use native.Mathlib.Omega.{arith}
 use mathlib.Core.Path.{_≡_, refl, sym, ap, subst, _∙_}
 use mathlib.Core.Bool.{Bool, true, false, cond}
-use mathlib.Core.List.{List, [], _∷_, _++_}
+use mathlib.Core.List.{List, [], _∷_}
 use lib.ListN.{length, getD}
-use lib.Dec.{eqb, eqb·zero-suc, eqb·suc-zero, eqb·suc-suc}
+use lib.Dec.{eqb}
+use borrow.Author.Tests.{eq-eqb, ne-eqb}
 use Rattle.calculus.specs.Sets.{In, here, there, union-of}
 use Rattle.calculus.specs.Sets.Laws.{from-union}
 use Rattle.calculus.specs.Lists.Laws.{place-of}
 use Rattle.calculus.specs.Formula.{Fmla, size}
 use Rattle.query.specs.Nodes.{children, occurrences, uses}
+use Rattle.query.specs.Nodes.Sums.{total, sum-below, total-append, sum-below-same, sum-below-zero, sum-below-add, sum-below-only, sum-of-places}
 use Rattle.query.specs.Decoding.{node-formula, formula-at, root}
 use Rattle.query.specs.Decoding.Laws.{Kind, is-truth, is-record, is-equality, is-not, is-and, is-or, is-exists, is-none, kind-of, formula-step}
-
--- ---- sums
-
--- The sum of f over a list.
-abbrev total : (ℕ → ℕ) → List ℕ → ℕ
-total f [] = 0
-total f (x ∷ xs) = f x + total f xs
-
--- f 0 + f 1 + .. + f (n - 1).
-abbrev sum-below : (ℕ → ℕ) → ℕ → ℕ
-sum-below f zero = 0
-sum-below f (suc n) = f zero + sum-below (λ i. f (suc i)) n
-
-total-append : (f : ℕ → ℕ) (xs ys : List ℕ) → total f (xs ++ ys) ≡ total f xs + total f ys
-total-append f [] ys = omega arith
-total-append f (x ∷ xs) ys = omega (arith, total-append f xs ys)
-
-sum-below-same : (f g : ℕ → ℕ) (n : ℕ) → ((i : ℕ) → i < n → f i ≡ g i) → sum-below f n ≡ sum-below g n
-sum-below-same f g zero h = refl
-sum-below-same f g (suc n) h = omega (arith, h 0 (omega arith), sum-below-same (λ i. f (suc i)) (λ i. g (suc i)) n (λ i l. h (suc i) (omega arith)))
-
-sum-below-last : (f : ℕ → ℕ) (n : ℕ) → sum-below f (suc n) ≡ sum-below f n + f n
-sum-below-last f zero = omega arith
-sum-below-last f (suc n) = omega (arith, sum-below-last (λ i. f (suc i)) n)
-
-sum-below-zero : (n : ℕ) → sum-below (λ i. 0) n ≡ 0
-sum-below-zero zero = refl
-sum-below-zero (suc n) = omega (arith, sum-below-zero n)
-
-sum-below-add : (f g : ℕ → ℕ) (n : ℕ) → sum-below (λ i. f i + g i) n ≡ sum-below f n + sum-below g n
-sum-below-add f g zero = omega arith
-sum-below-add f g (suc n) = omega (arith, sum-below-add (λ i. f (suc i)) (λ i. g (suc i)) n)
-
--- The sum of a function that is 0 but at x.
-sum-below-one : (f : ℕ → ℕ) (x n : ℕ) → x < n → sum-below (λ i. cond (eqb i x) (f i) 0) n ≡ f x
-sum-below-one f x zero h = absurd (omega arith)
-sum-below-one f zero (suc n) h = simp eqb·suc-zero (omega (arith, sum-below-zero n))
-sum-below-one f (suc x) (suc n) h = simp (eqb·zero-suc, eqb·suc-suc) (omega (arith, sum-below-one (λ i. f (suc i)) x n (omega arith)))
-
--- The sum over a list, by what stands at each place.
-sum-of-places : (f : ℕ → ℕ) (xs : List ℕ) → sum-below (λ i. f (getD xs i 0)) (length xs) ≡ total f xs
-sum-of-places f [] = refl
-sum-of-places f (x ∷ xs) = ap (λ n. f x + n) (sum-of-places f xs)
 
 -- ---- the sum over a list, by how often each number stands in it
 
@@ -69,9 +28,12 @@ repeated-next : (b : Bool) (j v : ℕ) → repeated (cond b (suc j) j) v ≡ con
 repeated-next true j v = refl
 repeated-next false j v = omega arith
 
+only-at : (f : ℕ → ℕ) (x m : ℕ) → x < m → sum-below (λ k. cond (eqb k x) (f k) 0) m ≡ f x
+only-at f x m h = sum-below-only (λ k. cond (eqb k x) (f k) 0) x m (λ i d. rw (ne-eqb i x d)) h ∙ rw (eq-eqb x x refl)
+
 total-counted : (f : ℕ → ℕ) (xs : List ℕ) (m : ℕ) → ((x : ℕ) → In x xs → x < m) → total f xs ≡ sum-below (λ k. repeated (occurrences k xs) (f k)) m
-total-counted f [] m h = sym (sum-below-zero m)
-total-counted f (x ∷ xs) m h = simp repeated-next (omega (arith, sum-below-add (λ k. cond (eqb k x) (f k) 0) (λ k. repeated (occurrences k xs) (f k)) m, sum-below-one f x m (h x (here refl)), total-counted f xs m (λ y i. h y (there i))))
+total-counted f [] m h = sym (sum-below-zero (λ k. 0) m (λ i l. refl))
+total-counted f (x ∷ xs) m h = simp repeated-next (omega (arith, sum-below-add (λ k. cond (eqb k x) (f k) 0) (λ k. repeated (occurrences k xs) (f k)) m, only-at f x m (h x (here refl)), total-counted f xs m (λ y i. h y (there i))))
 
 -- In a list of the numbers below m, each once, the sum is that below m.
 total-once : (f : ℕ → ℕ) (xs : List ℕ) (m : ℕ) → ((x : ℕ) → In x xs → x < m) → ((k : ℕ) → k < m → occurrences k xs ≡ 1) → total f xs ≡ sum-below f m
@@ -119,7 +81,7 @@ module _ (ns : List ℕ) (below : (i : ℕ) → i < length ns → (c : ℕ) → 
   child-sizes m e = total-once (size-at ns) (union-of children ns) m (child-below m e) (λ k l. once k (omega arith))
 
   last-size : (m : ℕ) → length ns ≡ suc m → size-at ns m ≡ length ns
-  last-size m e = omega (arith, sizes, child-sizes m e, sum-below-last (size-at ns) m, ap (sum-below (size-at ns)) e)
+  last-size m e = omega (arith, sizes, child-sizes m e, ap (sum-below (size-at ns)) e)
 
   pub root-size : 0 < length ns → size (root ns) ≡ length ns
   root-size h = last-size (length ns - 1) (omega arith)

@@ -101,7 +101,7 @@ children-few w = go (left w) (right w) (under w) (kind w)
 
 -- ---- how often a node is a child
 
-occurrences-append : (c : ℕ) (xs ys : List ℕ) → occurrences c (xs ++ ys) ≡ occurrences c xs + occurrences c ys
+pub occurrences-append : (c : ℕ) (xs ys : List ℕ) → occurrences c (xs ++ ys) ≡ occurrences c xs + occurrences c ys
 occurrences-append c [] ys = sym (zero-add (occurrences c ys))
 occurrences-append c (x ∷ xs) ys = go (eqb c x) (occurrences c (xs ++ ys)) (occurrences c xs) (occurrences c ys) (occurrences-append c xs ys)
   where

@@ -1,36 +1,24 @@
 -- The bytes that packing writes, read back: the header, the constants and the nodes are those that were packed.
 use Prim.Native.Nat.{ℕ, zero, suc, _+_, _*_, _/_, _%_, _≤_, _<_, _^_}
-use native.Mathlib.Nat.{add-assoc, zero-add, suc-add}
+use native.Mathlib.Nat.{add-assoc}
 use native.Mathlib.Omega.{arith}
 use mathlib.Core.Path.{_≡_, refl, sym, ap, _∙_}
 use mathlib.Core.Logic.{⊎-elim}
-use mathlib.Core.List.{List, [], _∷_, _++_, append-nil, append-assoc}
+use mathlib.Core.List.{List, [], _∷_, _++_, append-nil}
 use lib.ListN.{length, getD, length-append}
-use lib.Seq.{ext-getD, getD-append-add}
+use lib.Seq.{getD-append-add}
 use lib.Dec.{T}
 use borrow.Author.Tests.{eq-eqb, lt-leb, ne-eqb}
 use Rattle.calculus.specs.Reflects.{reflects-T, reflects-true}
 use Rattle.calculus.specs.Sets.{In, here, there, union-of}
-use Rattle.calculus.specs.Sets.Laws.{in-one, in-append, from-union}
+use Rattle.calculus.specs.Sets.Laws.{in-one, in-append, from-union, union-append}
 use Rattle.calculus.specs.Lists.{tabulate}
-use Rattle.calculus.specs.Lists.Laws.{length-tabulate, getD-tabulate}
+use Rattle.calculus.specs.Lists.Laws.{length-tabulate, tabulate-of, tabulate-same, tabulate-append}
 use Rattle.causes.specs.Causes.{Check, first-cause, widths-fit}
 use Rattle.query.specs.Reading.{version, count-of-nodes, count-of-constants, word-at, constants-of, nodes-of, header-checks}
 use Rattle.query.specs.Packing.{word-bytes, header-bytes, packed-bytes}
 
 -- ---- lists
-
-pub union-append : {A B : Type 0} (f : A → List B) (xs ys : List A) → union-of f (xs ++ ys) ≡ union-of f xs ++ union-of f ys
-union-append f [] ys = refl
-union-append f (x ∷ xs) ys = rw (union-append f xs ys) (sym (append-assoc (f x) (union-of f xs) (union-of f ys)))
-
-module _ {A : Type 0} where
-  tabulate-same : (f g : ℕ → A) (n : ℕ) → ((i : ℕ) → f i ≡ g i) → tabulate f n ≡ tabulate g n
-  tabulate-same f g n h = λ j. tabulate (λ i. h i j) n
-
-  tabulate-append : (f : ℕ → A) (k n : ℕ) → tabulate f (k + n) ≡ tabulate f k ++ tabulate (λ i. f (k + i)) n
-  tabulate-append f zero n = simp zero-add
-  tabulate-append f (suc k) n = simp suc-add (ap (λ l. f zero ∷ l) (tabulate-append (λ i. f (suc i)) k n))
 
 -- ---- words
 
@@ -57,7 +45,7 @@ pub word-at-bytes : (pre ns post : List ℕ) (i : ℕ) → i < length ns → wor
 word-at-bytes pre ns post i h = word-after pre (union-of word-bytes ns ++ post) (4 * i) ∙ word-first ns post i h
 
 tabulated : (f : ℕ → ℕ) (ns : List ℕ) → ((i : ℕ) → i < length ns → f i ≡ getD ns i 0) → tabulate f (length ns) ≡ ns
-tabulated f ns h = ext-getD 0 (tabulate f (length ns)) ns (length-tabulate f (length ns)) (λ i l. let m : i < length ns = omega (arith, length-tabulate f (length ns)) in getD-tabulate f (length ns) i 0 m ∙ h i m)
+tabulated f ns h = sym (tabulate-of f ns (length ns) 0 refl (λ i l. sym (h i l)))
 
 -- ---- the header
 

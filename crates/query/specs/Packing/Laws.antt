@@ -9,7 +9,8 @@ use lib.ListN.{length, getD, replicate, length-append, List·getD-append}
 use lib.Seq.{getD-append-add, take-append-seam}
 use lib.Dec.{T}
 use borrow.Author.Tests.{lt-leb}
-use Rattle.calculus.specs.Sets.{In, here, there}
+use Rattle.calculus.specs.Sets.{In}
+use Rattle.calculus.specs.Lists.Laws.{place-of}
 use Rattle.calculus.specs.Formula.{Fmla, truth, rel, eq, neg, conj, disj, exists, size}
 use Rattle.calculus.specs.Satisfaction.{Pool}
 use Rattle.calculus.specs.Generators.{columns}
@@ -142,28 +143,24 @@ pub read-pack : (ws : List ℕ) (pool : Pool) (φ : Fmla) → T (widths-fit ws) 
 read-pack ws pool φ t p = (accepts ws pool φ t p (omega (arith, length-words φ 0, size-positive φ)) (omega (arith, length-words φ 0)), root-words ws pool φ t p)
 
 module _ (ws : List ℕ) (pool : Pool) (φ : Fmla) (t : T (widths-fit ws)) (p : Packable ws pool φ) where
-  pub read-formula : formula (read-of ws (pack pool φ) .query) ≡ φ
-  read-formula = rw (read-pack ws pool φ t p .0) (ap root (take-append-seam (words φ 0) (replicate (max-nodes - length (words φ 0)) 0)) ∙ read-pack ws pool φ t p .1)
+  pub packed-formula : formula (read-of ws (pack pool φ) .query) ≡ φ
+  packed-formula = rw (read-pack ws pool φ t p .0) (ap root (take-append-seam (words φ 0) (replicate (max-nodes - length (words φ 0)) 0)) ∙ read-pack ws pool φ t p .1)
 
-  pub read-pool : pool-of (read-of ws (pack pool φ) .query) ≡ pool
-  read-pool = rw (read-pack ws pool φ t p .0) (take-append-seam pool (replicate (max-constants - length pool) 0))
+  pub packed-pool : pool-of (read-of ws (pack pool φ) .query) ≡ pool
+  packed-pool = rw (read-pack ws pool φ t p .0) (take-append-seam pool (replicate (max-constants - length pool) 0))
 
-  pub read-columns : read-of ws (pack pool φ) .columns ≡ columns-of (columns φ)
-  read-columns = rw (read-pack ws pool φ t p .0) (ap (λ χ. columns-of (columns χ)) (read-pack ws pool φ t p .1))
+  pub packed-columns : read-of ws (pack pool φ) .columns ≡ columns-of (columns φ)
+  packed-columns = rw (read-pack ws pool φ t p .0) (ap (λ χ. columns-of (columns χ)) (read-pack ws pool φ t p .1))
 
 -- ---- what packing writes: nodes in order, and bytes
 
 pub words-in-order : (ws : List ℕ) (pool : Pool) (φ : Fmla) → T (widths-fit ws) → Packable ws pool φ → InOrder (words φ 0)
 words-in-order ws pool φ t p i h = sound (packed-tree ws pool φ t p) (words-length ws pool φ t p) i h .ordered
 
-from-in : {x : ℕ} (xs : List ℕ) → In x xs → (i : ℕ) × (i < length xs) × (x ≡ getD xs i 0)
-from-in (y ∷ xs) (here e) = (0, omega arith, e)
-from-in (y ∷ xs) (there j) = let r = from-in xs j in (suc (r .0), omega (arith, r .1), r .2)
-
 pub pack-small : (ws : List ℕ) (pool : Pool) (φ : Fmla) → T (widths-fit ws) → Packable ws pool φ → (b : ℕ) → In b (pack pool φ) → b < 256
 pack-small ws pool φ t p = packed-small pool (words φ 0) (omega (arith, length-words φ 0)) (p .few-constants) (p .constants-fit) word-small
   where
     word-small : (n : ℕ) → In n (words φ 0) → n < 2 ^ 32
     word-small n i =
-        let r = from-in (words φ 0) i in
+        let r = place-of 0 (words φ 0) i in
         subst⁻¹ (λ u. u < 2 ^ 32) (r .2) (formed-small (getD (words φ 0) (r .0) 0) (sound (packed-tree ws pool φ t p) (words-length ws pool φ t p) (r .0) (r .1) .formed))

@@ -3,23 +3,24 @@ use Prim.Native.Nat.{ℕ, zero, suc, _+_, _-_, _≤_, _<_}
 use native.Mathlib.Decide.{decLe, decLt}
 use native.Mathlib.Omega.{arith}
 use mathlib.Core.Path.{_≡_, refl, sym, ap, subst, subst⁻¹, _∙_}
-use mathlib.Core.Bool.{Bool, true, false, _&&_, cond}
+use mathlib.Core.Bool.{Bool, true, false, _&&_}
 use mathlib.Core.List.{List, [], _∷_, _++_, append-nil}
 use lib.ListN.{length, getD, take}
 use lib.Seq.{take-suc, take-length}
-use lib.Dec.{eqb, leb}
+use lib.Dec.{leb}
 use borrow.Author.Tests.{eq-eqb, lt-leb, ne-eqb}
 use Rattle.calculus.specs.Sets.{In, here, there, any-of, union-of}
-use Rattle.calculus.specs.Sets.Laws.{in-nil, in-one}
+use Rattle.calculus.specs.Sets.Laws.{in-nil, in-one, union-append}
 use Rattle.calculus.specs.Formula.{Fmla, size}
 use Rattle.causes.specs.Causes.{Check, first-cause}
 use Rattle.causes.specs.Causes.Laws.{lowest-all-clear}
 use Rattle.query.specs.Nodes.{children, occurrences, uses, misplaced, malformed, strays, mismatched}
 use Rattle.query.specs.Decoding.{formula-at, root}
+use Rattle.query.specs.Nodes.Sums.{sum-below, sum-below-only}
+use Rattle.query.specs.Nodes.Laws.{occurrences-append}
 use Rattle.query.specs.Decoding.Laws.{formula-step}
 use Rattle.query.specs.Reading.{tree-checks}
 use Rattle.query.specs.Packing.{Ordered, childless, after-child, after-both}
-use Rattle.query.specs.Packing.Bytes.{union-append}
 use Rattle.query.specs.Packing.Fields.{Built}
 
 -- The nodes n to c of ns are the tree of a formula, with the root c.
@@ -93,19 +94,6 @@ module _ {ws : List ℕ} {k : ℕ} {ns : List ℕ} where
 
 -- ---- each node but the root is a child exactly once
 
-occurrences-append : (x : ℕ) (xs ys : List ℕ) → occurrences x (xs ++ ys) ≡ occurrences x xs + occurrences x ys
-occurrences-append x [] ys = omega arith
-occurrences-append x (y ∷ xs) ys = go (eqb x y) (occurrences-append x xs ys)
-  where
-    go : (b : Bool) → occurrences x (xs ++ ys) ≡ occurrences x xs + occurrences x ys → cond b (suc (occurrences x (xs ++ ys))) (occurrences x (xs ++ ys)) ≡ cond b (suc (occurrences x xs)) (occurrences x xs) + occurrences x ys
-    go true e = omega arith
-    go false e = e
-
--- f 0 + f 1 + .. + f (n - 1).
-abbrev pub sum-below : (ℕ → ℕ) → ℕ → ℕ
-sum-below f zero = zero
-sum-below f (suc n) = sum-below f n + f n
-
 -- How often x is i, and how often it is a child of node i.
 abbrev pub hits : ℕ → ℕ → ℕ
 hits x i = occurrences x (i ∷ [])
@@ -119,17 +107,8 @@ hits-itself x = rw (eq-eqb x x refl)
 pub hits-other : (x i : ℕ) → (x ≡ i → ⊥) → hits x i ≡ 0
 hits-other x i d = rw (ne-eqb x i d)
 
-hits-before : (x n : ℕ) → n ≤ x → sum-below (hits x) n ≡ 0
-hits-before x zero h = refl
-hits-before x (suc n) h = omega (arith, hits-before x n (omega arith), hits-other x n (λ e. omega arith))
-
 pub hits-once : (x n : ℕ) → x < n → sum-below (hits x) n ≡ 1
-hits-once x zero h = absurd (omega arith)
-hits-once x (suc n) h = go (decLt x n) (hits-once x n)
-  where
-    go : Dec (x < n) → (x < n → sum-below (hits x) n ≡ 1) → sum-below (hits x) (suc n) ≡ 1
-    go (yes l) r = omega (arith, r l, hits-other x n (λ e. omega arith))
-    go (no l) r = let e : x ≡ n = omega arith in subst (λ m. sum-below (hits x) (suc m) ≡ 1) e (omega (arith, hits-before x x (omega arith), hits-itself x))
+hits-once x n h = sum-below-only (hits x) x n (λ i d. hits-other x i (λ e. d (sym e))) h ∙ hits-itself x
 
 uses-taken : (ns : List ℕ) (x m : ℕ) → m ≤ length ns → occurrences x (union-of children (take m ns)) ≡ sum-below (uses-by ns x) m
 uses-taken ns x zero h = refl

@@ -1,16 +1,16 @@
 -- Laws of the reader's reply: the header's checks and those of the nodes, one by one as the code makes them.
 use Prim.Native.Nat.{ℕ, _+_, _*_, _≤_, _<_}
 use native.Mathlib.Omega.{arith}
-use mathlib.Core.Path.{_≡_, refl, sym, ap, _∙_}
+use mathlib.Core.Path.{_≡_, sym, ap, _∙_}
 use mathlib.Core.Logic.{_≢_}
-use mathlib.Core.Bool.{Bool, true, false, true≢false, not, _||_}
+use mathlib.Core.Bool.{Bool, true, false, not, _||_}
 use mathlib.Core.List.{List, [], _∷_, _++_}
 use lib.ListN.{length, take, drop, replicate}
 use lib.Dec.{eqb, ltb}
 use lib.Seq.{take-at}
 use borrow.Author.Tests.{lt-ltb, le-ltb, eq-eqb, ne-eqb, ltb-false, eqb-true, eqb-false, not-false}
 use Rattle.calculus.specs.Lists.{tabulate, padded}
-use Rattle.calculus.specs.Lists.Laws.{length-tabulate, padded-tabulate}
+use Rattle.calculus.specs.Lists.Laws.{length-tabulate, padded-tabulate, or-fails}
 use Rattle.calculus.specs.Generators.{columns}
 use Rattle.causes.specs.declared.Answer.{Answer}
 use Rattle.causes.specs.declared.Answer.the-variants.{Done, Refused}
@@ -69,10 +69,6 @@ pub record Headed (bs : List ℕ) : Type 0 where
   pub few-constants : count-of-constants bs ≤ 16
   pub whole : length bs ≡ 2 + 4 * count-of-constants bs + 4 * count-of-nodes bs
 
-or-split : (a b : Bool) → a || b ≡ false → (a ≡ false) × (b ≡ false)
-or-split true b e = absurd (true≢false e)
-or-split false b e = (refl, e)
-
 abbrev length-checks : List ℕ → List Check
 length-checks bs = check 5 (when (not (eqb (length bs) (2 + 4 * count-of-constants bs + 4 * count-of-nodes bs)))) ∷ []
 
@@ -88,9 +84,9 @@ header-done ws bs a e d =
     let s₃ = first-clear 3 (bad-version bs) (check 4 (when (bad-counts bs)) ∷ length-checks bs) (s₁ .1) in
     let s₄ = first-clear 4 (bad-counts bs) (length-checks bs) (s₃ .1) in
     let s₅ = first-clear 5 (not (eqb (length bs) (2 + 4 * count-of-constants bs + 4 * count-of-nodes bs))) [] (s₄ .1) in
-    let v = or-split (ltb (length bs) 2) (not (eqb (version bs) 1)) (s₃ .0) in
-    let c = or-split (eqb (count-of-nodes bs) 0 || ltb max-nodes (count-of-nodes bs)) (ltb max-constants (count-of-constants bs)) (s₄ .0) in
-    let n = or-split (eqb (count-of-nodes bs) 0) (ltb max-nodes (count-of-nodes bs)) (c .0) in
+    let v = or-fails (ltb (length bs) 2) (not (eqb (version bs) 1)) (s₃ .0) in
+    let c = or-fails (eqb (count-of-nodes bs) 0 || ltb max-nodes (count-of-nodes bs)) (ltb max-constants (count-of-constants bs)) (s₄ .0) in
+    let n = or-fails (eqb (count-of-nodes bs) 0) (ltb max-nodes (count-of-nodes bs)) (c .0) in
     headed-from bs (ltb-false (length bs) 2 (v .0)) (eqb-false (count-of-nodes bs) 0 (n .0)) (ltb-false 64 (count-of-nodes bs) (n .1)) (ltb-false 16 (count-of-constants bs) (c .1)) (eqb-true (length bs) (2 + 4 * count-of-constants bs + 4 * count-of-nodes bs) (not-false (eqb (length bs) (2 + 4 * count-of-constants bs + 4 * count-of-nodes bs)) (s₅ .0)))
   where
     headed-from : (bs : List ℕ) → 2 ≤ length bs → count-of-nodes bs ≢ 0 → count-of-nodes bs ≤ 64 → count-of-constants bs ≤ 16 → length bs ≡ 2 + 4 * count-of-constants bs + 4 * count-of-nodes bs → Headed bs

@@ -136,6 +136,29 @@ raised-above ps k i r h l m =
     ∙ getD-drop k ps (i - k) blank
     ∙ ap (λ j. getD ps j blank) f
 
+-- And at a removal those past place k go one place down.
+module _ (ps : List Record) (k i : ℕ) where
+  lowered-kept : length (take k ps ++ drop (suc k) ps) ≡ length (take k ps) + length (drop (suc k) ps)
+  lowered-kept = length-append (take k ps) (drop (suc k) ps)
+
+  pub lowered-below : k < length ps → i < k → getD (lowered ps k) i blank ≡ getD ps i blank
+  lowered-below h l =
+      let m : length (take k ps) ≡ k = length-take-le k ps (omega arith) in
+      List·getD-append (take k ps ++ drop (suc k) ps) (blank ∷ []) blank i (omega (arith, lowered-kept))
+      ∙ List·getD-append (take k ps) (drop (suc k) ps) blank i (omega arith)
+      ∙ getD-take k ps i blank l
+
+  pub lowered-above : k ≤ i → suc i < length ps → getD (lowered ps k) i blank ≡ getD ps (suc i) blank
+  lowered-above l h =
+      let m : length (take k ps) ≡ k = length-take-le k ps (omega arith) in
+      let e : i ≡ length (take k ps) + (i - k) = omega arith in
+      let f : suc k + (i - k) ≡ suc i = omega arith in
+      List·getD-append (take k ps ++ drop (suc k) ps) (blank ∷ []) blank i (omega (arith, lowered-kept, length-drop (suc k) ps))
+      ∙ ap (λ j. getD (take k ps ++ drop (suc k) ps) j blank) e
+      ∙ getD-append-add (take k ps) (drop (suc k) ps) (i - k) blank
+      ∙ getD-drop (suc k) ps (i - k) blank
+      ∙ ap (λ j. getD ps j blank) f
+
 -- ---- replies
 
 reply-answer : (a : Answer) (s t : Store) → reply a s t .answer ≡ a
@@ -378,3 +401,19 @@ module _ (s : Store) (r : Record) (done : removal-reply s r .answer ≡ Done) wh
 
   pub removal-facts : (f : Fact) → In f (facts (removal-reply s r .store)) ↔ (In f (facts s) × ¬ (f ≡ fact-of (s .widths) r))
   removal-facts f = subst⁻¹ (λ d. In f d ↔ (In f (facts s) × ¬ (f ≡ fact-of (s .widths) r))) (ap facts removal-store ∙ facts-store-of (s .widths) (without r (held s)) removal-few) (without-facts (s .widths) r (held s) (removal-clear s r (is-held r (held s)) (removal-judged-well .2) .0) (removal-judged-well .1 .all-fit) f)
+
+  removal-rank : found r (held s) ≡ true
+  removal-rank = found-held r (held s) (removal-judged-well .1 .ascending) ∙ reflects-true (reflects-T (is-held r (held s))) (removal-clear s r (is-held r (held s)) (removal-judged-well .2) .1)
+
+  removal-lowered : places-of (removal-reply s r .store) ≡ lowered (places-of s) (rank r (held s))
+  removal-lowered = ap places-of removal-store ∙ places-store-of (s .widths) (without r (held s)) removal-few ∙ sym (lowered-places s r (removal-judged-well .1) removal-rank)
+
+  -- Records below r stay in their places, the others go one place down.
+  pub removal-places : (k : ℕ) → (k < rank r (held s) → getD (places-of (removal-reply s r .store)) k blank ≡ getD (places-of s) k blank) × (rank r (held s) ≤ k → k < 255 → getD (places-of (removal-reply s r .store)) k blank ≡ getD (places-of s) (suc k) blank)
+  removal-places k = (λ h. ap (λ ps. getD ps k blank) removal-lowered ∙ lowered-below (places-of s) (rank r (held s)) k within h, λ h m. ap (λ ps. getD ps k blank) removal-lowered ∙ lowered-above (places-of s) (rank r (held s)) k h (omega (arith, all)))
+    where
+      all : length (places-of s) ≡ 256
+      all = length-places (s .relations) (s .values)
+
+      within : rank r (held s) < length (places-of s)
+      within = omega (arith, all, rank-found r (held s) removal-rank, length-held s (removal-judged-well .1 .count-fits), removal-judged-well .1 .count-fits)
