@@ -1,12 +1,14 @@
 #!/usr/bin/env python3
 """Cases for the program crates/trials, and what document 01 says of each: an account of the reader and of the tables that shares nothing with the engine.
 
-trials.py            compares crates/trials/stdin and crates/trials/stdout with what this account gives; exit status 1 where they differ
-trials.py --write    writes both files
+trials.py             compares crates/trials/stdin and crates/trials/stdout with what this account gives; exit status 1 where they differ
+trials.py --write     writes both files
+trials.py --random N  runs the built program on N batches of random queries and stores, and compares; exit status 1 where they differ
 """
 import pathlib
 import random
 import struct
+import subprocess
 import sys
 
 # ---- queries, from document 01, "The packed query"
@@ -430,17 +432,66 @@ def fill_cases():
     fill_case("fill: 13 at 257, before 15", WIDTHS_S, many[:256] + [(9, 0, 0, 0, 0)] + many[256:], 13)
 
 
-def main():
-    rng = random.Random(20261115)
+def random_store_cases(rng, number):
+    for i in range(number):
+        widths = [rng.randint(0, 4) for _ in range(16)]
+        if rng.random() < 0.1:
+            widths[rng.randrange(16)] = rng.choice([5, 255])
+
+        def record():
+            relation = rng.randrange(18)
+            width = widths[relation] if relation < 16 else 0
+            return (relation, *(rng.choice([0, 1, 2, 4294967295]) if k < width or rng.random() < 0.03 else 0 for k in range(4)))
+
+        records = [record() for _ in range(rng.randrange(12))]
+        if rng.random() < 0.85:
+            records = sorted({r for r in records if fits(widths, r)})
+        count = len(records) if rng.random() < 0.9 else rng.randrange(300)
+        changed = rng.choice(records) if records and rng.random() < 0.5 else record()
+        store_case(rng.choice("sppprrr"), f"random store {i}", Store(widths, records, count), records, changed)
+        again = [rng.choice(records) for _ in range(20)] if records else []
+        fill_case(f"random filling {i}", widths, [record() for _ in range(rng.choice([1, 3, 10]))] if rng.random() < 0.5 else again)
+
+
+def stored_cases():
     named_query_cases()
     store_cases()
     fill_cases()
     room = 65000 - sum(len(c[0]) for c in CASES)
-    random_query_cases(rng, room // 75)
+    random_query_cases(random.Random(20261115), room // 75)
+
+
+HERE = pathlib.Path(__file__).resolve().parent.parent
+
+
+def compare_random(batches):
+    """The built program against this account, on batches that fit its room of 65,536 bytes."""
+    differ = ran = 0
+    for seed in range(batches):
+        CASES.clear()
+        rng = random.Random(seed)
+        random_query_cases(rng, 400)
+        random_store_cases(rng, 40)
+        given = b"".join(c[0] for c in CASES)
+        assert len(given) < 65536, len(given)
+        got = subprocess.run([HERE / "target" / "bin" / "trials"], input=given, stdout=subprocess.PIPE, check=True).stdout.decode()
+        for line, (_, wanted) in zip(got.split("\n") + [""] * len(CASES), CASES):
+            ran += 1
+            if line != wanted:
+                differ += 1
+                print(f"trials: batch {seed}: {line!r}, and not {wanted!r}")
+    print(f"trials: {ran} random cases, {differ} differ")
+    return 1 if differ else 0
+
+
+def main():
+    if sys.argv[1:2] == ["--random"]:
+        return compare_random(int(sys.argv[2]))
+    stored_cases()
     given = b"".join(c[0] for c in CASES)
     wanted = "".join(c[1] + "\n" for c in CASES)
     assert len(given) < 65536, len(given)
-    here = pathlib.Path(__file__).resolve().parent.parent / "crates" / "trials"
+    here = HERE / "crates" / "trials"
     if sys.argv[1:] == ["--write"]:
         (here / "stdin").write_bytes(given)
         (here / "stdout").write_text(wanted)

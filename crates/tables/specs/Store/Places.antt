@@ -14,8 +14,8 @@ use Rattle.calculus.specs.Lists.{tabulate}
 use Rattle.tables.specs.declared.Record.{Record}
 use Rattle.tables.specs.declared.Store.{Store}
 use Rattle.tables.specs.Records.{values-of, blank}
-use Rattle.tables.specs.Store.{record-at, places, set-four, set-values, of-places}
-use Rattle.tables.specs.Store.Laws.{length-places, getD-places}
+use Rattle.tables.specs.Store.{record-at, places, set-four, set-values, held, of-places, store-of}
+use Rattle.tables.specs.Store.Laws.{length-places, getD-places, Layout, length-held, layout-places}
 
 -- ---- a place read
 
@@ -151,6 +151,10 @@ module _ (rs vs : List ℕ) (lr : length rs ≡ 256) (lv : length vs ≡ 1024) w
   -- A store is that of its places.
   pub store-placed : (ws : List ℕ) (n : ℕ) → _≡_ {A = Store} (record { widths = ws; relations = rs; values = vs; count = n }) (of-places ws (places rs vs) n)
   store-placed ws n = λ i. record { widths = ws; relations = relations-placed i; values = values-placed i; count = n }
+
+-- A store in the layout is settled by its widths and the records it holds.
+pub layout-store : (s : Store) → length (s .relations) ≡ 256 → length (s .values) ≡ 1024 → Layout s → s ≡ store-of (s .widths) (held s)
+layout-store s a b l = store-placed (s .relations) (s .values) a b (s .widths) (s .count) ∙ (λ i. of-places (s .widths) (layout-places s l i) (sym (length-held s (l .count-fits)) i))
 
 -- ---- a record put in between, or taken out, place by place
 
