@@ -18,12 +18,13 @@ use Rattle.causes.specs.declared.Answer.the-variants.{Done, Refused}
 use Rattle.causes.specs.Causes.{widths-fit}
 use Rattle.tables.specs.declared.Record.{Record}
 use Rattle.tables.specs.declared.Store.{Store}
+use Rattle.tables.specs.declared.Spot.{Spot}
 use Rattle.tables.specs.declared.Changed.{Changed}
 use Rattle.tables.specs.Records.{record-below, same-record, width, fits, values-of, is-blank, blank}
 use Rattle.tables.specs.Store.{places, places-of, record-at, set-values, held, unused, judgement, of-places, store-of, no-store}
 use Rattle.tables.specs.Store.Laws.{length-places}
 use Rattle.tables.specs.Store.Places.{length-set-values, places-set, insert-at, remove-at, insert-at-next, insert-at-end, insert-at-split, remove-at-next, remove-at-end, remove-at-split, store-placed}
-use Rattle.tables.specs.Change.{rank, found, raised, lowered, insertion, deletion}
+use Rattle.tables.specs.Change.{located, rank, found, raised, lowered, insertion, deletion}
 use Rattle.tables.specs.Fill.{beginning, merged, collected-into, collected}
 
 -- ---- the order of number lists, and their sameness, from the front
@@ -309,6 +310,17 @@ module _ (s : Store) (w : widths-fit (s .widths) ≡ true) where
 -- An answer and a store.
 abbrev changed : Answer → Store → Changed
 changed a s = record { answer = a; store = s }
+
+-- The parts of what was located.
+module _ (s : Store) (r : Record) {p : Spot} (e : p ≡ located s r) where
+  pub spot-fits : fits (s .widths) r ≡ p .fits
+  spot-fits = sym (ap (λ (q : Spot). q .fits) e)
+
+  pub spot-place : rank r (held s) ≡ p .place
+  spot-place = sym (ap (λ (q : Spot). q .place) e)
+
+  pub spot-held : found r (held s) ≡ p .held
+  spot-held = sym (ap (λ (q : Spot). q .held) e)
 
 module _ (s : Store) (r : Record) where
   pub insertion-unfit : fits (s .widths) r ≡ false → changed (Refused 13 0) s ≡ insertion s r

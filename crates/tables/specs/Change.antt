@@ -11,6 +11,7 @@ use Rattle.causes.specs.declared.Answer.the-variants.{Done, Refused}
 use Rattle.causes.specs.Causes.{check, first-cause, when, widths-fit}
 use Rattle.tables.specs.declared.Record.{Record}
 use Rattle.tables.specs.declared.Store.{Store}
+use Rattle.tables.specs.declared.Spot.{Spot}
 use Rattle.tables.specs.declared.Changed.{Changed}
 use Rattle.tables.specs.Records.{record-below, same-record, fits, blank}
 use Rattle.tables.specs.Store.{capacity, places-of, held, in-layout, of-places, store-of}
@@ -67,6 +68,10 @@ rank r (p ∷ ps) = cond (record-below p r) (suc (rank r ps)) zero
 abbrev pub found : Record → List Record → Bool
 found r [] = false
 found r (p ∷ ps) = cond (record-below p r) (found r ps) (same-record p r)
+
+-- Whether r fits, its place, and whether it stands there.
+abbrev pub located : Store → Record → Spot
+located s r = record { fits = fits (s .widths) r; place = rank r (held s); held = found r (held s) }
 
 -- r at place k, and the records from there on one place up; the last one goes.
 abbrev pub raised : List Record → ℕ → Record → List Record

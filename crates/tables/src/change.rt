@@ -2,6 +2,7 @@
 use crate::Changed;
 use crate::PLACES;
 use crate::Record;
+use crate::Spot;
 use crate::Store;
 use crate::VALUES;
 use crate::layout;
@@ -12,7 +13,7 @@ ghost use mathlib.Core.Path.{_≡_};
 ghost use Prim.Native.Nat.{_+_, _-_, _≤_, _<_};
 ghost use lib.ListN.{take};
 ghost use Rattle.tables.specs.Store.{capacity, places, places-of, of-places};
-ghost use Rattle.tables.specs.Change.{rank, found, raised, lowered, insertion, deletion, put-reply, removal-reply};
+ghost use Rattle.tables.specs.Change.{rank, found, located, raised, lowered, insertion, deletion, put-reply, removal-reply};
 
 // The number of records below r that stand before any other, among the first count.
 pub fn rank_of<'a>(
@@ -50,6 +51,21 @@ fn found_at<'a>(
         return false;
     }
     order::same(place::read(relations, values, k), r)
+}
+
+// Where a record stands in a store whose count was judged.
+fn locate(s: Store, r: Record) -> Spot
+    requires { ⌜ s .count ≤ capacity ⌝ }
+    ensures { λ p. ⌜ p ≡ located s r ⌝ }
+{
+    let widths = s.widths;
+    let relations = s.relations;
+    let values = s.values;
+    let count = s.count;
+    let fits = layout::record_fits(&widths, r);
+    let place = rank_of(&relations, &values, count, r);
+    let held = found_at(&relations, &values, count, place, r);
+    Spot { fits, place, held }
 }
 
 // The store with r at place k, and the records from there on one place up.
@@ -117,18 +133,15 @@ pub fn insert(s: Store, r: Record) -> Changed
     requires { ⌜ s .count ≤ capacity ⌝ }
     ensures { λ c. ⌜ c ≡ insertion s r ⌝ }
 {
-    let widths = s.widths;
-    let relations = s.relations;
-    let values = s.values;
     let count = s.count;
-    if !layout::record_fits(&widths, r) {
+    let spot = locate(s, r);
+    if !spot.fits {
         return Changed {
             answer: Answer::Refused(13, 0),
             store: s,
         };
     }
-    let k = rank_of(&relations, &values, count, r);
-    if found_at(&relations, &values, count, k, r) {
+    if spot.held {
         return Changed {
             answer: Answer::Refused(14, 0),
             store: s,
@@ -140,7 +153,7 @@ pub fn insert(s: Store, r: Record) -> Changed
             store: s,
         };
     }
-    let t = raise(s, k, r);
+    let t = raise(s, spot.place, r);
     Changed {
         answer: Answer::Done,
         store: t,
@@ -152,19 +165,15 @@ pub fn delete(s: Store, r: Record) -> Changed
     requires { ⌜ s .count ≤ capacity ⌝ }
     ensures { λ c. ⌜ c ≡ deletion s r ⌝ }
 {
-    let widths = s.widths;
-    let relations = s.relations;
-    let values = s.values;
-    let count = s.count;
-    if !layout::record_fits(&widths, r) {
+    let spot = locate(s, r);
+    if !spot.fits {
         return Changed {
             answer: Answer::Refused(13, 0),
             store: s,
         };
     }
-    let k = rank_of(&relations, &values, count, r);
-    if found_at(&relations, &values, count, k, r) {
-        let t = lower(s, k);
+    if spot.held {
+        let t = lower(s, spot.place);
         return Changed {
             answer: Answer::Done,
             store: t,

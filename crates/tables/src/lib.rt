@@ -32,6 +32,13 @@ pub struct Store {
     pub count: usize,
 }
 
+// Where a record stands in a store, or would stand: whether it fits the widths, its place, and whether it is held there.
+pub struct Spot {
+    pub fits: bool,
+    pub place: usize,
+    pub held: bool,
+}
+
 // What a change answers, and the store after it.
 pub struct Changed {
     pub answer: Answer,
