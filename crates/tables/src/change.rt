@@ -16,7 +16,7 @@ ghost use Rattle.tables.specs.Store.{capacity, places, places-of, of-pla
 ghost use Rattle.tables.specs.Change.{rank, found, located, raised, lowered, insertion, deletion, put-reply, removal-reply};
 
 // The number of records below r that stand before any other, among the first count.
-pub fn rank_of<'a>(
+fn rank_of<'a>(
     relations: &'a [u8; PLACES],
     values: &'a [u32; VALUES],
     count: usize,
@@ -128,7 +128,7 @@ fn lower(s: Store, k: usize) -> Store
     }
 }
 
-// Causes 13 to 15 and the put, for a store whose count was judged.
+// Causes 13 to 15 and the put, for a caller that has judged the store: only its count matters here.
 pub fn insert(s: Store, r: Record) -> Changed
     requires { ⌜ s .count ≤ capacity ⌝ }
     ensures { λ c. ⌜ c ≡ insertion s r ⌝ }
@@ -160,7 +160,7 @@ pub fn insert(s: Store, r: Record) -> Changed
     }
 }
 
-// Causes 13 and 16 and the removal, for a store whose count was judged.
+// Causes 13 and 16 and the removal, for a caller that has judged the store: only its count matters here.
 pub fn delete(s: Store, r: Record) -> Changed
     requires { ⌜ s .count ≤ capacity ⌝ }
     ensures { λ c. ⌜ c ≡ deletion s r ⌝ }

@@ -5,7 +5,7 @@
 pub mod change;
 pub mod fill;
 pub mod layout;
-pub mod order;
+mod order;
 pub mod place;
 
 use causes::Answer;
