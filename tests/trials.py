@@ -179,8 +179,9 @@ def query_text(reply):
 
 def store_text(s):
     h = 7
-    for v in s.widths + [p[0] for p in s.places] + [v for p in s.places for v in p[1:]]:
-        h = h % 1000003 * 31 + v
+    for i, place in enumerate(s.places):
+        for v in ([s.widths[i]] if i < 16 else []) + list(place):
+            h = h % 1000003 * 31 + v
     text = f" count {s.count} sum {h}"
     if s.count <= 4:
         text += "".join(" | " + " ".join(map(str, p)) for p in s.held())

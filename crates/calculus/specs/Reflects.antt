@@ -1,9 +1,9 @@
 -- A test beside what it tests: one lemma for a test says both that it is sound and that it is complete.
-use Prim.Native.Nat.{ℕ, suc, _<_}
+use Prim.Native.Nat.{ℕ, suc, _<_, _≤_}
 use mathlib.Core.Path.{_≡_, refl, subst}
 use mathlib.Core.Logic.{_⊎_, inl, inr}
 use mathlib.Core.Bool.{Bool, true, false, not, _&&_, _||_}
-use lib.Dec.{T, eqb, eqb→eq, eqb-refl, leb→le, le→leb, ltb}
+use lib.Dec.{T, eqb, eqb→eq, eqb-refl, leb, leb→le, le→leb, ltb}
 
 -- `Reflects A b`: the test b answers whether A holds.
 pub data Reflects (A : Type 0) : Bool → Type 0 where
@@ -64,3 +64,6 @@ reflects-eqb m n = reflects-map (eqb→eq m n) (λ e. subst (λ (k : ℕ). T (eq
 
 pub reflects-ltb : (m n : ℕ) → Reflects (m < n) (ltb m n)
 reflects-ltb m n = reflects-map (leb→le (suc m) n) (le→leb (suc m) n) (reflects-T (ltb m n))
+
+pub reflects-leb : (m n : ℕ) → Reflects (m ≤ n) (leb m n)
+reflects-leb m n = reflects-map (leb→le m n) (le→leb m n) (reflects-T (leb m n))

@@ -1,4 +1,5 @@
-// The free variables of a packed query, and its columns.
+// The free variables of a packed query, and its columns. For the reader alone (the module is not public): a node count in range is asked for, which cause 4
+// has judged.
 use crate::COLUMNS;
 use crate::Columns;
 use crate::NODES;

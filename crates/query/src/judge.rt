@@ -1,4 +1,5 @@
-// The causes of a packed query, in order: 1, 3, 4, 5 of its header, then 6 to 9, each over all nodes.
+// The causes of a packed query, in order: 1, 3, 4, 5 of its header, then 6 to 9, each over all nodes. For the reader alone (the module is not public): what
+// follows the header asks for counts in range, which causes 4 and 5 have just judged.
 use crate::CONSTANTS;
 use crate::NODES;
 use crate::node;

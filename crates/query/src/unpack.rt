@@ -1,4 +1,5 @@
-// Counts and words out of packed bytes, high byte first.
+// Counts and words out of packed bytes, high byte first. For the reader alone (the module is not public): it asks for bytes that are there, having judged
+// the length first, so that nothing is read past the end.
 ghost use mathlib.Core.Path.{_≡_};
 ghost use mathlib.Core.List.{_++_};
 ghost use Prim.Native.Nat.{_+_, _*_, _≤_, _<_};
@@ -6,6 +7,7 @@ ghost use lib.ListN.{length, drop};
 ghost use Rattle.calculus.specs.Lists.{tabulate};
 ghost use Rattle.query.specs.Reading.{count-of-nodes, count-of-constants, word-at};
 
+// A byte as a number.
 pub fn wide(b: u8) -> u32
     ensures { λ r. ⌜ (r ≡ b) × (r < 256) ⌝ }
 {

@@ -125,24 +125,14 @@ fn mixed(h: u64, v: u32) -> u64 {
     h % 1000003 * 31 + v as u64
 }
 
-fn mix_bytes(h: u64, s: &[u8]) -> u64 {
-    let mut sum = h;
-    let mut i = 0;
-    while i < s.len() {
-        sum = mixed(sum, wide(s[i]));
-        i += 1;
-    }
-    sum
-}
-
-fn mix_numbers(h: u64, s: &[u32]) -> u64 {
-    let mut sum = h;
-    let mut i = 0;
-    while i < s.len() {
-        sum = mixed(sum, s[i]);
-        i += 1;
-    }
-    sum
+fn mixed_record(h: u64, r: Record) -> u64 {
+    mixed(
+        mixed(
+            mixed(mixed(mixed(h, wide(r.relation)), r.first), r.second),
+            r.third,
+        ),
+        r.fourth,
+    )
 }
 
 // A sum over all record places and widths, which tells stores apart.
@@ -150,7 +140,16 @@ fn sum_of(s: Store) -> u64 {
     let widths = s.widths;
     let relations = s.relations;
     let values = s.values;
-    mix_numbers(mix_bytes(mix_bytes(7, &widths), &relations), &values)
+    let mut h = 7;
+    let mut i = 0;
+    while i < 256 {
+        if i < 16 {
+            h = mixed(h, wide(widths[i]));
+        }
+        h = mixed_record(h, tables::place::read(&relations, &values, i));
+        i += 1;
+    }
+    h
 }
 
 // The count, the sum, and the records of a small store.
@@ -199,22 +198,18 @@ fn list_numbers(s: &[u32], n: usize, as_words: bool) {
     }
 }
 
-fn list_bytes(s: &[u8], n: usize) {
-    let mut i = 0;
-    while i < s.len() {
-        if i < n {
-            number(wide(s[i]));
-        }
-        i += 1;
-    }
-}
-
 fn list_query(q: Query, c: Columns) {
     let constants = q.constants;
     let nodes = q.nodes;
     let variables = c.variables;
+    let columns = [
+        wide(variables[0]),
+        wide(variables[1]),
+        wide(variables[2]),
+        wide(variables[3]),
+    ];
     io::write_all(1, b" accepted columns");
-    list_bytes(&variables, c.count);
+    list_numbers(&columns, c.count, false);
     io::write_all(1, b" constants");
     list_numbers(&constants, q.constant_count, false);
     io::write_all(1, b" nodes");

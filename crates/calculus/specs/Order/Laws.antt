@@ -8,7 +8,7 @@ use mathlib.Core.Logic.{_↔_, Iff·rfl, Iff·trans, _⊎_, inl, inr, _≢_}
 use mathlib.Core.Bool.{Bool, true, false, not, cond}
 use mathlib.Core.List.{List, [], _∷_}
 use lib.ListN.{length}
-use lib.Dec.{T, leb, ltb, leb→le, le→leb}
+use lib.Dec.{T, ltb}
 use Rattle.calculus.specs.Sets.{In, here, there, _⊆_, select}
 use Rattle.calculus.specs.Sets.Laws.{in-nil, in-rest, subset-cons, same-cons, subset-swap, in-select, from-select}
 use Rattle.calculus.specs.Reflects.{Reflects, holds, fails, reflected, reflects, reflects-T, reflects-map, reflects-and, reflects-or, reflects-eqb, reflects-ltb}
@@ -292,6 +292,3 @@ module _ {A : Type 0} (below : A → A → Bool) where
       known z (there j) = j
 
 -- ---- the test for ≤
-
-pub reflects-leb : (m n : ℕ) → Reflects (m ≤ n) (leb m n)
-reflects-leb m n = reflects-map (leb→le m n) (le→leb m n) (reflects-T (leb m n))

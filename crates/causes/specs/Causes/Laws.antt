@@ -109,6 +109,12 @@ then-refused [] ds n p e = absurd (never-done (sym e))
 then-refused (check m clear ∷ cs) ds n p e = then-refused cs ds n p e
 then-refused (check m (met q) ∷ cs) ds n p e = e
 
+-- Checks that meet no cause meet none before others either.
+pub first-done : (cs ds : List Check) → first-cause (cs ++ ds) ≡ Done → first-cause cs ≡ Done
+first-done [] ds e = refl
+first-done (check n clear ∷ cs) ds e = first-done cs ds e
+first-done (check n (met p) ∷ cs) ds e = absurd (never-done e)
+
 -- Where no cause is met, the first check's test failed, or the test that it denies held.
 pub first-clear : (n : ℕ) (b : Bool) (cs : List Check) → first-cause (check n (when b) ∷ cs) ≡ Done → (b ≡ false) × (first-cause cs ≡ Done)
 first-clear n true cs e = absurd (never-done e)

@@ -17,7 +17,7 @@ use Rattle.query.specs.declared.Reading.{Reading}
 use Rattle.query.specs.Decoding.{root}
 use Rattle.query.specs.Free.{columns-found}
 use Rattle.query.specs.Reading.{word-at, count-of-nodes, count-of-constants, constants-of, nodes-of, header-checks, tree-checks, columns-of, accepted}
-use Rattle.query.specs.Reading.Laws.{Headed, header-done, refused-header, refused-tree, refused-columns, read-accepted, Fitting, fitting, nodes-read, nodes-padded, constants-padded}
+use Rattle.query.specs.Reading.Laws.{Headed, header-done, refused-header, refused-tree, refused-columns, reply-accepted, Fitting, fitting, nodes-read, nodes-padded, constants-padded}
 use Rattle.query.proofs.read.Statement.{statement}
 use Rattle.query.proofs.read.Tie as tie
 
@@ -191,7 +191,7 @@ returns-4 c =
     (constants-padded f (constants w) (w .before .before .before .words .ensures))
     (nodes-padded f (nodes w) (w .words2 .ensures))
     (found t ∙ few-columns (columns (root (nodes-of (bytes s)))) few)
-    ∙ read-accepted (widths s) (bytes s) (passed (told (counts w))) (placed (t .before .before)) few
+    ∙ reply-accepted (widths s) (bytes s) (passed (told (counts w))) (placed (t .before .before)) few
 
 pub read-spec : {M : Type 1} → statement M
 read-spec =

@@ -2,11 +2,12 @@
 use Prim.Native.Nat.{ℕ, zero, suc, _+_, _*_, _-_, _%_, _<_, _≤_, _^_}
 use native.Mathlib.Omega.{arith}
 use mathlib.Core.Path.{_≡_, refl, sym, ap, subst, subst⁻¹, _∙_}
-use mathlib.Core.Bool.{Bool, true, false, true≢false, not, _&&_, _||_, cond}
+use mathlib.Core.Bool.{Bool, true, false, true≢false, not, _&&_, cond}
 use mathlib.Core.List.{List, [], _∷_, _++_, map}
 use lib.ListN.{length, getD, take, length-map, List·getD-append, replicate}
 use lib.Seq.{length-take-le, take-append-seam}
-use lib.Dec.{T, leb, ltb, eqb, nleb→lt}
+use lib.Dec.{T, leb, ltb, eqb}
+use borrow.Author.Tests.{leb-false, ltb-false, eqb-false}
 use Rattle.calculus.specs.Sets.{In, here, there, any-of}
 use Rattle.calculus.specs.Sets.Laws.{from-map}
 use Rattle.calculus.specs.Lists.Laws.{length-tabulate, or-fails, any-of-false, from-tabulate}
@@ -17,11 +18,12 @@ use Rattle.calculus.specs.Generators.{columns}
 use Rattle.causes.specs.declared.Answer.{Answer}
 use Rattle.causes.specs.declared.Answer.the-variants.{Done, Refused}
 use Rattle.causes.specs.Causes.{clear, first-cause, when, widths-fit}
-use Rattle.causes.specs.Causes.Laws.{width-fits, AllClear, first-cause-done, when-clear, lowest-clear}
+use Rattle.causes.specs.Causes.Laws.{width-fits, first-done, AllClear, first-cause-done, when-clear, lowest-clear}
 use Rattle.query.specs.Nodes.{relation, term-count, terms, variable, equal-term, left, right, under, children, uses, malformed, misplaced, is-stray, strays, mismatched}
 use Rattle.query.specs.Decoding.{term-of, node-formula, formula-at, root}
 use Rattle.query.specs.Decoding.Laws.{Kind, is-truth, is-record, is-equality, is-not, is-and, is-or, is-exists, is-none, kind-of, formula-step}
-use Rattle.query.specs.Reading.{version, max-nodes, max-constants, max-columns, count-of-nodes, count-of-constants, word-at, constants-of, nodes-of, tree-checks, column-checks, read-checks, query-of, columns-of, refusal, accepted, read-reply, read-of, pool, nodes-in, formula}
+use Rattle.query.specs.Reading.{max-nodes, max-constants, max-columns, count-of-nodes, count-of-constants, word-at, constants-of, nodes-of, header-checks, tree-checks, column-checks, read-checks, query-of, columns-of, refusal, accepted, read-reply, read-of, pool, nodes-in, formula}
+use Rattle.query.specs.Reading.Laws.{Headed, header-done}
 use Rattle.query.specs.Packing.{words, pack, TermFits, var-fits, con-fits, Fits, truth-fits, rel-fits, eq-fits, neg-fits, conj-fits, disj-fits, exists-fits, Packable}
 use Rattle.query.specs.Packing.Bytes.{bytes-at}
 use Rattle.query.specs.Packing.Laws.{read-pack, pack-small}
@@ -34,23 +36,13 @@ pub confirmed : {A : Type 0} {b : Bool} → Reflects A b → not b ≡ false →
 confirmed (holds a) e = a
 confirmed (fails n) e = absurd (true≢false e)
 
-not-le : (m n : ℕ) → leb m n ≡ false → n < m
-not-le m n e = nleb→lt m n (rw e tt)
-
-not-less : (m n : ℕ) → ltb m n ≡ false → n ≤ m
-not-less m n e = let l : n < suc m = not-le (suc m) n e in omega arith
-
-not-zero : (n : ℕ) → eqb n 0 ≡ false → 0 < n
-not-zero zero e = absurd (true≢false e)
-not-zero (suc n) e = omega arith
-
 -- ---- the formula of a node without faults
 
 term-fits : (k t : ℕ) → is-stray k t ≡ false → TermFits k (term-of t)
 term-fits k t e = go (leb 16 t) e
   where
     go : (b : Bool) → b && leb k (t % 16) ≡ false → TermFits k (cond b (con (t % 16)) (var (t % 16)))
-    go true e = con-fits (not-le k (t % 16) e)
+    go true e = con-fits (leb-false k (t % 16) e)
     go false e = var-fits {x = t % 16} (omega arith)
 
 terms-fit : (k : ℕ) (xs : List ℕ) → any-of (is-stray k) xs ≡ false → (t : Term) → In t (map term-of xs) → TermFits k t
@@ -59,7 +51,7 @@ terms-fit k xs e t i = let r = from-map term-of xs i in subst⁻¹ (TermFits k) 
 module _ (ws : List ℕ) (k : ℕ) (widths : T (widths-fit ws)) where
   -- A record of relation r with the first n of four terms.
   record-fits : (r n : ℕ) (xs : List ℕ) → r < 16 → length xs ≡ 4 → (eqb (getD ws r 0) 0 ≡ false) × (not (eqb n (getD ws r 0)) ≡ false) → any-of (is-stray k) (take n xs) ≡ false → Fits ws k (rel r (map term-of (take n xs)))
-  record-fits r n xs l four m s = rel-fits {r = r} {ts = map term-of (take n xs)} l (omega (arith, not-zero (getD ws r 0) (m .0), same, count)) (count ∙ same) (terms-fit k (take n xs) s)
+  record-fits r n xs l four m s = rel-fits {r = r} {ts = map term-of (take n xs)} l (omega (arith, eqb-false (getD ws r 0) 0 (m .0), same, count)) (count ∙ same) (terms-fit k (take n xs) s)
     where
       same : n ≡ getD ws r 0
       same = confirmed (reflects-eqb n (getD ws r 0)) (m .1)
@@ -100,7 +92,7 @@ module _ (ws cs ns : List ℕ) (c : Checked ws cs ns) where
   placed-parts i h = or-fails (any-of (leb i) (children (getD ns i 0))) (not (eqb (i + 1) (length ns)) && not (eqb (uses ns i) 1)) (c .placed i h)
 
   pub children-below : (i : ℕ) → i < length ns → (d : ℕ) → In d (children (getD ns i 0)) → d < i
-  children-below i h d m = not-le i d (any-of-false (leb i) (children (getD ns i 0)) (placed-parts i h .0) d m)
+  children-below i h d m = leb-false i d (any-of-false (leb i) (children (getD ns i 0)) (placed-parts i h .0) d m)
 
   once : (i : ℕ) → i + 1 < length ns → uses ns i ≡ 1
   once i h = confirmed (reflects-eqb (uses ns i) 1) (rw inner at (placed-parts i (omega arith) .1))
@@ -185,11 +177,8 @@ module _ (ws bs : List ℕ) where
   pub read-pool : read-of ws bs .answer ≡ Done → pool (read-of ws bs .query) ≡ constants-of bs
   read-pool h = ap (λ r. pool (r .query)) (read-done h) ∙ pool-of (constants-of bs) (nodes-of bs)
 
-  pub read-version : read-of ws bs .answer ≡ Done → version bs ≡ 1
-  read-version h = confirmed (reflects-eqb (version bs) 1) (or-fails (ltb (length bs) 2) (not (eqb (version bs) 1)) (when-clear (ltb (length bs) 2 || not (eqb (version bs) 1)) (checks-clear h .1 .0)) .1)
-
-  pub read-length : read-of ws bs .answer ≡ Done → length bs ≡ 2 + 4 * count-of-constants bs + 4 * count-of-nodes bs
-  read-length h = confirmed (reflects-eqb (length bs) (2 + 4 * count-of-constants bs + 4 * count-of-nodes bs)) (when-clear (not (eqb (length bs) (2 + 4 * count-of-constants bs + 4 * count-of-nodes bs))) (checks-clear h .1 .1 .1 .0))
+  pub read-headed : read-of ws bs .answer ≡ Done → Headed bs
+  read-headed h = header-done ws bs Done (sym (first-done (header-checks ws bs) (tree-checks ws (count-of-constants bs) (nodes-of bs) ++ column-checks (nodes-of bs)) (cause Done h))) refl
 
   pub read-columns : read-of ws bs .answer ≡ Done → read-of ws bs .columns ≡ columns-of (columns (formula (read-of ws bs .query)))
   read-columns h = ap (λ r. r .columns) (read-done h) ∙ ap (λ φ. columns-of (columns φ)) (sym (read-formula h))
@@ -208,31 +197,21 @@ constants-length bs = length-tabulate (λ i. word-at bs (2 + 4 * i)) (count-of-c
 pub nodes-length : (bs : List ℕ) → length (nodes-of bs) ≡ count-of-nodes bs
 nodes-length bs = length-tabulate (λ i. word-at bs (2 + 4 * count-of-constants bs + 4 * i)) (count-of-nodes bs)
 
--- Cause 4 is not met.
-counts-fit : (n k : ℕ) → when (eqb n 0 || ltb max-nodes n || ltb max-constants k) ≡ clear → (1 ≤ n) × (n ≤ max-nodes) × (k ≤ max-constants)
-counts-fit n k e = go (or-fails (eqb n 0 || ltb max-nodes n) (ltb max-constants k) (when-clear (eqb n 0 || ltb max-nodes n || ltb max-constants k) e))
-  where
-    go : (eqb n 0 || ltb max-nodes n ≡ false) × (ltb max-constants k ≡ false) → (1 ≤ n) × (n ≤ max-nodes) × (k ≤ max-constants)
-    go r = let u = or-fails (eqb n 0) (ltb max-nodes n) (r .0) in (not-zero n (u .0), not-less max-nodes n (u .1), not-less max-constants k (r .1))
-
 module _ (ws bs : List ℕ) (bytes : (i : ℕ) → getD bs i 0 < 256) (h : read-of ws bs .answer ≡ Done) where
-  counts : (1 ≤ count-of-nodes bs) × (count-of-nodes bs ≤ max-nodes) × (count-of-constants bs ≤ max-constants)
-  counts = counts-fit (count-of-nodes bs) (count-of-constants bs) (checks-clear ws bs h .1 .1 .0)
-
   tree-clear : AllClear (tree-checks ws (count-of-constants bs) (nodes-of bs) ++ column-checks (nodes-of bs))
   tree-clear = checks-clear ws bs h .1 .1 .1 .1
 
   pub read-checked : Checked ws (constants-of bs) (nodes-of bs)
   read-checked = record {
     widths = read-widths ws bs h;
-    some-node = rw nodes-length (counts .0);
-    few-nodes = rw nodes-length (counts .1);
-    few-constants = rw constants-length (counts .2);
+    some-node = rw nodes-length (read-headed ws bs h .some-nodes);
+    few-nodes = rw nodes-length (read-headed ws bs h .few-nodes);
+    few-constants = rw constants-length (read-headed ws bs h .few-constants);
     formed = lowest-clear (λ i. malformed (getD (nodes-of bs) i 0)) (length (nodes-of bs)) (tree-clear .0);
     placed = lowest-clear (misplaced (nodes-of bs)) (length (nodes-of bs)) (tree-clear .1 .0);
     constants-held = (λ i l. subst⁻¹ (λ k. strays k (getD (nodes-of bs) i 0) ≡ false) (constants-length bs) (lowest-clear (λ j. strays (count-of-constants bs) (getD (nodes-of bs) j 0)) (length (nodes-of bs)) (tree-clear .1 .1 .0) i l));
     relations-held = lowest-clear (λ i. mismatched ws (getD (nodes-of bs) i 0)) (length (nodes-of bs)) (tree-clear .1 .1 .1 .0);
-    few-columns = not-less max-columns (length (columns (root (nodes-of bs)))) (when-clear (ltb max-columns (length (columns (root (nodes-of bs))))) (tree-clear .1 .1 .1 .1 .0));
+    few-columns = ltb-false max-columns (length (columns (root (nodes-of bs)))) (when-clear (ltb max-columns (length (columns (root (nodes-of bs))))) (tree-clear .1 .1 .1 .1 .0));
     constants-fit = constant-fits bs bytes;
   }
 

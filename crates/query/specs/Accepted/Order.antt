@@ -24,7 +24,7 @@ use Rattle.query.specs.Reading.{constants-of, nodes-of, read-of, pool, f
 use Rattle.query.specs.Packing.{term-code, terms-code, words, packed-bytes, pack, Ordered, after-child, after-both, InOrder}
 use Rattle.query.specs.Packing.Bytes.{Bytes, bytes-at, packed-again}
 use Rattle.query.specs.Packing.Laws.{length-words, Placed}
-use Rattle.query.specs.Accepted.Laws.{confirmed, Checked, children-below, size-right, read-pool, read-formula, read-version, read-length, read-checked}
+use Rattle.query.specs.Accepted.Laws.{confirmed, Checked, children-below, size-right, read-pool, read-formula, read-headed, read-checked}
 
 nonzero-false : (n : ℕ) → nonzero n ≡ false → n ≡ 0
 nonzero-false n e = confirmed (reflects-eqb n 0) e
@@ -215,4 +215,4 @@ pub pack-read : (ws bs : List ℕ) → Bytes bs → InOrder (nodes-of bs) → re
 pack-read ws bs bytes order done =
     (λ i. pack (read-pool ws bs done i) (read-formula ws bs done i))
     ∙ ap (packed-bytes (constants-of bs)) (words-again ws (constants-of bs) (nodes-of bs) (read-checked ws bs (bytes-at bs bytes) done) order)
-    ∙ packed-again bs bytes (read-version ws bs done) (read-length ws bs done)
+    ∙ packed-again bs bytes (read-headed ws bs done .first) (read-headed ws bs done .whole)

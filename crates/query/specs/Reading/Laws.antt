@@ -64,6 +64,7 @@ module _ {ws bs : List ℕ} {n k : ℕ} (c : Counted ws bs n k) where
 -- What the header's checks say where they find nothing.
 pub record Headed (bs : List ℕ) : Type 0 where
   pub long : 2 ≤ length bs
+  pub first : version bs ≡ 1
   pub some-nodes : 1 ≤ count-of-nodes bs
   pub few-nodes : count-of-nodes bs ≤ 64
   pub few-constants : count-of-constants bs ≤ 16
@@ -87,10 +88,10 @@ header-done ws bs a e d =
     let v = or-fails (ltb (length bs) 2) (not (eqb (version bs) 1)) (s₃ .0) in
     let c = or-fails (eqb (count-of-nodes bs) 0 || ltb max-nodes (count-of-nodes bs)) (ltb max-constants (count-of-constants bs)) (s₄ .0) in
     let n = or-fails (eqb (count-of-nodes bs) 0) (ltb max-nodes (count-of-nodes bs)) (c .0) in
-    headed-from bs (ltb-false (length bs) 2 (v .0)) (eqb-false (count-of-nodes bs) 0 (n .0)) (ltb-false 64 (count-of-nodes bs) (n .1)) (ltb-false 16 (count-of-constants bs) (c .1)) (eqb-true (length bs) (2 + 4 * count-of-constants bs + 4 * count-of-nodes bs) (not-false (eqb (length bs) (2 + 4 * count-of-constants bs + 4 * count-of-nodes bs)) (s₅ .0)))
+    headed-from bs (ltb-false (length bs) 2 (v .0)) (eqb-true (version bs) 1 (not-false (eqb (version bs) 1) (v .1))) (eqb-false (count-of-nodes bs) 0 (n .0)) (ltb-false 64 (count-of-nodes bs) (n .1)) (ltb-false 16 (count-of-constants bs) (c .1)) (eqb-true (length bs) (2 + 4 * count-of-constants bs + 4 * count-of-nodes bs) (not-false (eqb (length bs) (2 + 4 * count-of-constants bs + 4 * count-of-nodes bs)) (s₅ .0)))
   where
-    headed-from : (bs : List ℕ) → 2 ≤ length bs → count-of-nodes bs ≢ 0 → count-of-nodes bs ≤ 64 → count-of-constants bs ≤ 16 → length bs ≡ 2 + 4 * count-of-constants bs + 4 * count-of-nodes bs → Headed bs
-    headed-from bs a b c d e = record { long = a; some-nodes = omega arith; few-nodes = c; few-constants = d; whole = e }
+    headed-from : (bs : List ℕ) → 2 ≤ length bs → version bs ≡ 1 → count-of-nodes bs ≢ 0 → count-of-nodes bs ≤ 64 → count-of-constants bs ≤ 16 → length bs ≡ 2 + 4 * count-of-constants bs + 4 * count-of-nodes bs → Headed bs
+    headed-from bs a v b c d e = record { long = a; first = v; some-nodes = omega arith; few-nodes = c; few-constants = d; whole = e }
 
 -- ---- the nodes
 
@@ -145,8 +146,8 @@ module _ (ws bs : List ℕ) where
       pub refused-columns : 4 < length (columns (root (nodes-of bs))) → refusal 10 0 ≡ read-of ws bs
       refused-columns m = sym (replied {a = Refused 10 0} (columns-decide ∙ rw (lt-ltb 4 (length (columns (root (nodes-of bs)))) m)))
 
-      pub read-accepted : length (columns (root (nodes-of bs))) ≤ 4 → accepted (constants-of bs) (nodes-of bs) ≡ read-of ws bs
-      read-accepted m = sym (replied {a = Done} (columns-decide ∙ rw (le-ltb 4 (length (columns (root (nodes-of bs)))) m)))
+      pub reply-accepted : length (columns (root (nodes-of bs))) ≤ 4 → accepted (constants-of bs) (nodes-of bs) ≡ read-of ws bs
+      reply-accepted m = sym (replied {a = Done} (columns-decide ∙ rw (le-ltb 4 (length (columns (root (nodes-of bs)))) m)))
 
 -- The header passes, and the counts are read.
 pub record Fitting (bs : List ℕ) (n k : ℕ) : Type 0 where

@@ -13,8 +13,8 @@ use Rattle.calculus.specs.Sets.Laws.{in-nil, in-cons, in-rest, in-map, from-map
 use Rattle.calculus.specs.Lists.{padded}
 use Rattle.calculus.specs.Lists.Laws.{select-all, take-padded}
 use Rattle.calculus.specs.Order.{Ascending, before, insert}
-use Rattle.calculus.specs.Order.Laws.{below-differs, below-one-way, from-insert, in-insert, insert-ascending, ascending-select, select-length, length-insert-le, reflects-leb}
-use Rattle.calculus.specs.Reflects.{Reflects, holds, fails, reflects, reflected, reflects-true, reflects-false, reflects-T, reflects-map, reflects-not}
+use Rattle.calculus.specs.Order.Laws.{below-differs, below-one-way, from-insert, in-insert, insert-ascending, ascending-select, select-length, length-insert-le}
+use Rattle.calculus.specs.Reflects.{Reflects, holds, fails, reflects, reflected, reflects-true, reflects-false, reflects-T, reflects-map, reflects-not, reflects-leb}
 use Rattle.calculus.specs.Satisfaction.{Fact}
 use Rattle.causes.specs.declared.Answer.{Answer}
 use Rattle.causes.specs.declared.Answer.the-variants.{Done, Refused}

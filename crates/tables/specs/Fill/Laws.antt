@@ -12,8 +12,8 @@ use native.Mathlib.Numerals.{add-one}
 use Rattle.calculus.specs.Sets.{In, here, there}
 use Rattle.calculus.specs.Sets.Laws.{in-nil, in-cons, in-map, from-map}
 use Rattle.calculus.specs.Order.{Ascending, nothing, insert}
-use Rattle.calculus.specs.Order.Laws.{from-insert, in-insert, insert-ascending, insert-member, length-insert-le, reflects-leb}
-use Rattle.calculus.specs.Reflects.{Reflects, holds, fails, reflects-T, reflects-false, reflects-ltb}
+use Rattle.calculus.specs.Order.Laws.{from-insert, in-insert, insert-ascending, insert-member, length-insert-le}
+use Rattle.calculus.specs.Reflects.{Reflects, holds, fails, reflects-T, reflects-false, reflects-ltb, reflects-leb}
 use Rattle.calculus.specs.Satisfaction.{Fact}
 use Rattle.causes.specs.declared.Answer.{Answer}
 use Rattle.causes.specs.declared.Answer.the-variants.{Done, Refused}

@@ -12,8 +12,8 @@ use Rattle.calculus.specs.Sets.Laws.{reflects-all}
 use Rattle.calculus.specs.Lists.{padded}
 use Rattle.calculus.specs.Lists.Laws.{length-tabulate, getD-tabulate, length-padded, reflects-replicate}
 use Rattle.calculus.specs.Order.{Ascending}
-use Rattle.calculus.specs.Order.Laws.{reflects-ascending, reflects-leb}
-use Rattle.calculus.specs.Reflects.{Reflects, reflects-T, reflects-map, reflects-and}
+use Rattle.calculus.specs.Order.Laws.{reflects-ascending}
+use Rattle.calculus.specs.Reflects.{Reflects, reflects-T, reflects-map, reflects-and, reflects-leb}
 use Rattle.causes.specs.declared.Answer.the-variants.{Done}
 use Rattle.causes.specs.Causes.{check, when, widths-fit}
 use Rattle.causes.specs.Causes.Laws.{first-passed}
