@@ -1,15 +1,18 @@
 #!/usr/bin/env python3
 """Cases for the program crates/trials, and what document 01 says of each: an account of the reader and of the tables that shares nothing with the engine.
+That of the verdict is in verdicts.py.
 
 trials.py             compares crates/trials/stdin and crates/trials/stdout with what this account gives; exit status 1 where they differ
 trials.py --write     writes both files
-trials.py --random N  runs the built program on N batches of random queries and stores, and compares; exit status 1 where they differ
+trials.py --random N  runs the built program on N batches of random queries, verdicts and stores, and compares; exit status 1 where they differ
 """
 import pathlib
 import random
 import struct
 import subprocess
 import sys
+
+import verdicts
 
 # ---- queries, from document 01, "The packed query"
 
@@ -209,6 +212,22 @@ def query_case(name, data, widths=WIDTHS_S, expect=None):
     case("q", name, bytes(widths) + bytes(data), query_text(reply))
 
 
+def verdict_text(reply):
+    if reply[0] == "refused":
+        return query_text(reply)
+    _, columns, constants, nodes = reply
+    form, generators, ungenerated, unranged, safe = verdicts.verdict(columns, nodes)
+    text = query_text(("accepted", columns, constants, form)) + " generators" + "".join(f" {g:016x}" for g in generators)
+    return text + f" ungenerated {ungenerated:016x} unranged {unranged:016x}" + (" safe" if safe else " unsafe")
+
+
+def verdict_case(name, data, widths=WIDTHS_S, expect=None):
+    """expect: the end of the line that document 01 or the reading of it says."""
+    text = verdict_text(read(list(data), widths))
+    assert expect is None or text.endswith(expect), (name, text, expect)
+    case("v", name, bytes(widths) + bytes(data), text)
+
+
 def pack_record(r):
     return struct.pack(">BIIII", *r)
 
@@ -258,13 +277,18 @@ def equality(x, y):
     return 2 << 29 | x << 25 | y << 20
 
 
-def joined(leaves):
-    """The leaves joined by and, from the left."""
+def joined_by(join, leaves):
+    """The leaves joined from the left."""
     nodes, top = [leaves[0]], 0
     for leaf in leaves[1:]:
-        nodes += [leaf, 4 << 29 | top << 23 | len(nodes) << 17]
+        nodes += [leaf, join(top, len(nodes))]
         top = len(nodes) - 1
     return nodes
+
+
+def joined(leaves):
+    """The leaves joined by and, from the left."""
+    return joined_by(both, leaves)
 
 
 def named_query_cases():
@@ -355,6 +379,159 @@ def random_query_cases(rng, number):
         for _ in range(rng.choice([0, 0, 1, 1, 2])):
             data[rng.randrange(len(data))] ^= 1 << rng.randrange(8)
         query_case(f"random query {i}", data)
+
+
+# ---- verdicts
+
+R0, R1 = 0x20801000, 0x22400000  # 0(x,y) and 1(x)
+FALSE, TRUE = 0, 1 << 28
+
+
+def record(relation, *terms):
+    return 1 << 29 | relation << 25 | len(terms) << 22 | sum(t << 17 - 5 * at for at, t in enumerate(terms))
+
+
+def no(child):
+    return 3 << 29 | child << 23
+
+
+def both(left, right):
+    return 4 << 29 | left << 23 | right << 17
+
+
+def either(left, right):
+    return 5 << 29 | left << 23 | right << 17
+
+
+def some(variable, child):
+    return 6 << 29 | variable << 25 | child << 19
+
+
+def reports(generators, ungenerated, unranged, safe):
+    """The end of a verdict's line, from lists of node and variable numbers."""
+    numbers = [verdicts.bits(g, 64) for g in generators] + [0] * (4 - len(generators))
+    text = " generators" + "".join(f" {g:016x}" for g in numbers)
+    return text + f" ungenerated {verdicts.bits(ungenerated, 16):016x} unranged {verdicts.bits(unranged, 64):016x}" + (" safe" if safe else " unsafe")
+
+
+def named_verdict_cases():
+    def v(name, nodes, generators, ungenerated, unranged, form=None, constants=(), widths=WIDTHS_S):
+        safe = not ungenerated and not unranged
+        end = reports(generators, ungenerated, unranged, safe)
+        if form is not None:
+            end = " nodes" + "".join(f" {w:08x}" for w in form) + end
+        verdict_case(name, words_bytes(nodes, constants), widths, end)
+
+    # the worked cases
+    v("0(x,y) and not 1(x)", NODES, [[0], [0]], [], [], NODES)
+    v("not 1(x)", [R1, no(0)], [[]], [0], [])
+    v("1(x) and x = y", [R1, equality(0, 1), both(0, 1)], [[0], [0]], [], [])
+    v("x = y and 1(x)", [equality(0, 1), R1, both(0, 1)], [[1], []], [1], [])
+    v("not (not 1(x) or not x = y)", [R1, no(0), equality(0, 1), no(2), either(1, 3), no(4)], [[0], []], [1], [])
+    v("1(x) and y = y", [R1, equality(1, 1), both(0, 1)], [[0], []], [1], [], [R1])
+    v("false and 1(x)", [FALSE, R1, both(0, 1)], [[]], [], [], [FALSE])
+    v("exists y 1(x)", [R1, some(1, 0)], [[0]], [], [], [R1])
+    v("exists x not 1(x)", [R1, no(0), some(0, 1)], [], [], [2])
+    v("x = 7", [equality(0, 16)], [[0]], [], [], None, [7])
+    v("exists y (0(x,y) or 1(x))", [R0, R1, either(0, 1), some(1, 2)], [[0, 1]], [], [3])
+    v("not 1(x) and exists x 1(x)", [R1, no(0), R1, some(0, 2), both(1, 3)], [[]], [0], [])
+    # the order, and what it takes of two
+    v("1(x) and 1(x): the left one", [R1, R1, both(0, 1)], [[0]], [], [])
+    v("not 1(x) and 1(x): the right one", [R1, no(0), R1, both(1, 2)], [[2]], [], [])
+    v("not (not 1(x) or not 1(x)): the left one", [R1, no(0), R1, no(2), either(1, 3), no(4)], [[0]], [], [])
+    v("1(x) or 1(x): both", [R1, R1, either(0, 1)], [[0, 1]], [], [])
+    v("not (not 1(x) and not 1(x)): both", [R1, no(0), R1, no(2), both(1, 3), no(4)], [[0, 2]], [], [])
+    v("not not 1(x)", [R1, no(0), no(1)], [[0]], [], [])
+    v("1(x) and not not x = y", [R1, equality(0, 1), no(1), no(2), both(0, 3)], [[0], []], [1], [])
+    v("1(y) and x = y", [record(1, 1), equality(0, 1), both(0, 1)], [[0], [0]], [], [])
+    v("(1(x) and x = y) and y = z", [R1, equality(0, 1), both(0, 1), equality(1, 2), both(2, 3)], [[0], [0], [0]], [], [])
+    v("(1(x) and y = z) and x = y", [R1, equality(1, 2), both(0, 1), equality(0, 1), both(2, 3)], [[0], [0], []], [2], [])
+    v("1(x) and (x = y and true)", [R1, equality(0, 1), TRUE, both(1, 2), both(0, 3)], [[0], [0]], [], [], [R1, equality(0, 1), both(0, 1)])
+    v("not x = 7", [equality(0, 16), no(0)], [[]], [0], [], None, [7])
+    v("not true", [TRUE, no(0)], [], [], [], [FALSE])
+    v("true or 1(x): no row is generated", [TRUE, R1, either(0, 1)], [[]], [0], [], [TRUE])
+    v("0(x,y) or false", [R0, FALSE, either(0, 1)], [[0], [0]], [], [], [R0])
+    v("exists x (1(x) and x = x)", [R1, equality(0, 0), both(0, 1), some(0, 2)], [], [], [], [R1, some(0, 0)])
+    v("exists x x = x", [equality(0, 0), some(0, 0)], [], [], [], [TRUE])
+    v("1(x) and not exists x not 1(x)", [R1, R1, no(1), some(0, 2), no(3), both(0, 4)], [[0]], [], [3])
+    v("exists y of exists y 0(x,y)", [R0, some(1, 0), some(1, 1)], [[0]], [], [], [R0, some(1, 0)])
+    # nodes in another order than the form's
+    v("the right subtree first", [R1, R0, no(0), both(1, 2)], [[0], [0]], [], [], NODES)
+    v("subtrees interleaved", [R1, R0, R1, no(2), either(0, 1), both(4, 3)], [[0, 1], []], [1], [], [R1, R0, either(0, 1), R1, no(3), both(2, 4)])
+    # the ends of the numbers
+    v("63 nots: node 0, the highest bit", chain(64), [[]], [0], [])
+    v("62 nots: node 0, the highest bit", chain(63), [[0]], [], [])
+    leaves = [record(0, 0, 1)] * 32
+    v("32 records joined by or: the last of 63 nodes", joined_by(either, leaves), [[0, 1] + list(range(3, 63, 2))] * 2, [], [])
+    last = joined_by(either, [R1] * 31) + [no(60), R1, both(61, 62)]
+    v("64 nodes: node 62 generates", last, [[62]], [], [])
+    v("64 nodes: an exists at node 63", chain(63) + [some(0, 62)], [], [], [])
+    v("64 nodes: node 63 reported", [R0, some(1, 0)] + [no(i) for i in range(1, 62)] + [some(0, 62)], [], [], [63])
+    v("32 equalities in a chain", joined_by(both, [record(1, 2)] + [equality(0, 1)] * 31), [[], [], [0]], [0, 1], [])
+    v("variables 12 to 15", [record(3, 12, 13, 14, 15)], [[0]] * 4, [], [], None, (), [0, 0, 0, 4] + [0] * 12)
+    v("variable 15 ungenerated", [record(0, 15, 0), no(0)], [[], []], [0, 15], [])
+    # refusals
+    verdict_case("verdict: 1", WORKED, [5, 1] + [0] * 14, " refused 1 0")
+    verdict_case("verdict: 3", b"", expect=" refused 3 0")
+    verdict_case("verdict: 4", words_bytes([]), expect=" refused 4 0")
+    verdict_case("verdict: 5", WORKED + b"\x00", expect=" refused 5 0")
+    verdict_case("verdict: 6", nodes_with(n1=0xE0000000), expect=" refused 6 1")
+    verdict_case("verdict: 7", nodes_with(n3=both(2, 2)), expect=" refused 7 0")
+    verdict_case("verdict: 8", nodes_with(n1=R1 | 16 << 17), expect=" refused 8 1")
+    verdict_case("verdict: 9", nodes_with(n1=0x2E400000), expect=" refused 9 1")
+    verdict_case("verdict: 10", words_bytes(joined([equality(0, 1), equality(2, 3), equality(4, 4)])), expect=" refused 10 0")
+
+
+def random_tree(rng, room, variables):
+    """A formula as nested tuples of a kind, its other fields, and its children, of at most room nodes."""
+    kind = rng.choice([0, 1, 1, 2] if room < 2 else [1, 2, 3, 6] if room < 3 else [0, 1, 1, 2, 2, 3, 3, 4, 4, 4, 5, 5, 6, 6])
+    variable = rng.choice(variables)
+    term = lambda: rng.choice(variables + variables + [16, 17])
+    if kind == 0:
+        return (rng.randint(0, 1) << 28,)
+    if kind == 1:
+        relation = rng.randrange(4)
+        return (record(relation, *(term() for _ in range(relation + 1))),)
+    if kind == 2:
+        return (equality(variable, term()),)
+    if kind in (3, 6):
+        return kind << 29 | (variable << 25 if kind == 6 else 0), random_tree(rng, room - 1, variables)
+    left = random_tree(rng, rng.randint(1, room - 2), variables)
+    return kind << 29, left, random_tree(rng, room - 1 - tree_size(left), variables)
+
+
+def tree_size(t):
+    return 1 + sum(tree_size(c) for c in t[1:])
+
+
+def random_order(rng, t):
+    """The nodes of a tree, numbered in any order in which children come before their parent."""
+    waiting, nodes, parents = [], [], {}
+
+    def leaves(t, up):
+        here = [t[0], [None] * len(t[1:]), up]
+        for place, c in enumerate(t[1:]):
+            leaves(c, (here, place))
+        if len(t) == 1:
+            waiting.append(here)
+
+    leaves(t, None)
+    while waiting:
+        w, children, up = waiting.pop(rng.randrange(len(waiting)))
+        shifts = [19] if w >> 29 == 6 else [23, 17]
+        nodes.append(w | sum(c << shift for c, shift in zip(children, shifts)))
+        if up:
+            up[0][1][up[1]] = len(nodes) - 1
+            if None not in up[0][1]:
+                waiting.append(up[0])
+    return nodes
+
+
+def random_verdict_cases(rng, number):
+    for i in range(number):
+        room = rng.choice([3, 6, 10, 20, 64])
+        t = random_tree(rng, room, rng.choice([[0, 1], [0, 1, 2], [3, 7, 11, 15], [0, 1, 2, 3, 4]]))
+        verdict_case(f"v{i}", words_bytes(random_order(rng, t), [7, 9]), [1, 2, 3, 4] + [0] * 12)
 
 
 def store_cases():
@@ -456,8 +633,10 @@ def random_store_cases(rng, number):
 
 def stored_cases():
     named_query_cases()
+    named_verdict_cases()
     store_cases()
     fill_cases()
+    random_verdict_cases(random.Random(20261115), 40)
     room = 65000 - sum(len(c[0]) for c in CASES)
     random_query_cases(random.Random(20261115), room // 75)
 
@@ -467,21 +646,22 @@ HERE = pathlib.Path(__file__).resolve().parent.parent
 
 def compare_random(batches):
     """The built program against this account, on batches that fit its room of 65,536 bytes."""
-    differ = ran = 0
+    differ, safe, ran = 0, 0, {}
     for seed in range(batches):
-        CASES.clear()
         rng = random.Random(seed)
-        random_query_cases(rng, 400)
-        random_store_cases(rng, 40)
-        given = b"".join(c[0] for c in CASES)
-        assert len(given) < 65536, len(given)
-        got = subprocess.run([HERE / "target" / "bin" / "trials"], input=given, stdout=subprocess.PIPE, check=True).stdout.decode()
-        for line, (_, wanted) in zip(got.split("\n") + [""] * len(CASES), CASES):
-            ran += 1
-            if line != wanted:
-                differ += 1
-                print(f"trials: batch {seed}: {line!r}, and not {wanted!r}")
-    print(f"trials: {ran} random cases, {differ} differ")
+        for make in (random_query_cases, 400), (random_store_cases, 40), (random_verdict_cases, 400):
+            CASES.clear()
+            make[0](rng, make[1])
+            given = b"".join(c[0] for c in CASES)
+            assert len(given) < 65536, len(given)
+            got = subprocess.run([HERE / "target" / "bin" / "trials"], input=given, stdout=subprocess.PIPE, check=True).stdout.decode()
+            for line, (_, wanted) in zip(got.split("\n") + [""] * len(CASES), CASES):
+                ran[make[0]] = ran.get(make[0], 0) + 1
+                if line != wanted:
+                    differ += 1
+                    print(f"trials: batch {seed}: {line!r}, and not {wanted!r}")
+            safe += sum(w.endswith(" safe") for _, w in CASES)
+    print(f"trials: random cases: {', '.join(f'{n} of {make.__name__}' for make, n in ran.items())}; {safe} verdicts safe; {differ} differ")
     return 1 if differ else 0
 
 

@@ -67,3 +67,10 @@ reflects-ltb m n = reflects-map (leb→le (suc m) n) (le→leb (suc m) n) (refle
 
 pub reflects-leb : (m n : ℕ) → Reflects (m ≤ n) (leb m n)
 reflects-leb m n = reflects-map (leb→le m n) (le→leb m n) (reflects-T (leb m n))
+
+-- Two tests of the same.
+pub reflects-same : {A B : Type 0} {a b : Bool} → Reflects A a → Reflects B b → (A → B) → (B → A) → a ≡ b
+reflects-same (holds x) (holds y) f g = refl
+reflects-same (holds x) (fails n) f g = absurd (n (f x))
+reflects-same (fails n) (holds y) f g = absurd (n (g y))
+reflects-same (fails n) (fails m) f g = refl

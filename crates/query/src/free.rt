@@ -71,7 +71,7 @@ fn free_in_node(w: u32, x: u32, before: &[bool; NODES]) -> bool
 }
 
 // Whether variable x is free in the query.
-fn is_free(nodes: &[u32; NODES], n: usize, x: u32) -> bool
+pub fn is_free(nodes: &[u32; NODES], n: usize, x: u32) -> bool
     requires { ⌜ (1 ≤ n) × (n ≤ max-nodes) × (x < 16) ⌝ }
     ensures { λ r. ⌜ r ≡ member x (fv (root (take n (now (nodes .entry))))) ⌝ }
 {

@@ -1,7 +1,7 @@
-// Runs the calls of the crates tables and query on the cases of standard input, and writes a line for each: its name, and the reply.
+// Runs the calls of the crates tables, query and verdict on the cases of standard input, and writes a line for each: its name, and the reply.
 //
 // A case is a kind, the length of its name (1 byte), the length of its body (2 bytes, high byte first), the name and the body. Kinds:
-// q reads a query: the body is sixteen widths and the query's bytes.
+// q reads a query: the body is sixteen widths and the query's bytes. v gives the verdict on it.
 // s judges a store, p puts a record into one, r removes one: the body is a record of 17 bytes, then the store: sixteen widths, its count (2 bytes), the
 //   number of record places that follow (2 bytes), and those places, 17 bytes each; places that don't follow are zero.
 // f fills a store: the body is sixteen widths, and the records, 17 bytes each.
@@ -15,6 +15,7 @@ use query::Query;
 use tables::Changed;
 use tables::Record;
 use tables::Store;
+use verdict::Verdict;
 
 // The byte at i, or 0 past the end.
 fn byte(s: &[u8], i: usize) -> u8 {
@@ -104,6 +105,11 @@ fn number(n: u32) {
 fn hex_word(n: u32) {
     io::write_all(1, b" ");
     io::print_hex(1, n as u64, 8);
+}
+
+fn hex_long(n: u64) {
+    io::write_all(1, b" ");
+    io::print_hex(1, n, 16);
 }
 
 fn refused(number: u8, place: u8) {
@@ -232,6 +238,40 @@ fn run_query(body: &[u8]) {
     }
 }
 
+// The form with the query's columns, then what the verdict reports.
+fn list_verdict(v: Verdict) {
+    let form = v.form;
+    let columns = v.columns;
+    let generators = v.generators;
+    list_query(form, columns);
+    io::write_all(1, b" generators");
+    hex_long(generators[0]);
+    hex_long(generators[1]);
+    hex_long(generators[2]);
+    hex_long(generators[3]);
+    io::write_all(1, b" ungenerated");
+    hex_long(v.ungenerated as u64);
+    io::write_all(1, b" unranged");
+    hex_long(v.unranged);
+    if v.safe {
+        io::write_all(1, b" safe");
+    } else {
+        io::write_all(1, b" unsafe");
+    }
+}
+
+fn run_verdict(body: &[u8]) {
+    if body.len() < 16 {
+        return;
+    }
+    let v = verdict::judge(&body[16..], widths_of(body, 0));
+    let answer = v.answer;
+    match answer {
+        Answer::Done => list_verdict(v),
+        Answer::Refused(number, place) => refused(number, place),
+    }
+}
+
 // A length, or 65,536 where it is more.
 fn capped(n: usize) -> usize
     ensures { λ r. ⌜ r ≤ 65536 ⌝ }
@@ -277,6 +317,7 @@ fn run_judge(s: Store) {
 fn run(kind: u8, body: &[u8]) {
     match kind {
         b'q' => run_query(body),
+        b'v' => run_verdict(body),
         b's' => run_judge(store_of(body)),
         b'p' => list_changed(tables::change::put(store_of(body), record_of(body, 0))),
         b'r' => list_changed(tables::change::remove(store_of(body), record_of(body, 0))),

@@ -1,11 +1,12 @@
 -- Laws of the nodes of a formula: they are numbered one after the other, and which formulas they hold doesn't depend on where the numbers start.
-use Prim.Native.Nat.{ℕ, zero, suc, _+_}
+use Prim.Native.Nat.{ℕ, zero, suc, _+_, _<_}
 use native.Mathlib.Nat.{add-zero, zero-add, suc-add, add-suc}
-use mathlib.Core.Path.{_≡_, refl, sym, ap, _∙_}
+use native.Mathlib.Omega.{arith}
+use mathlib.Core.Path.{_≡_, refl, sym, ap, subst, _∙_}
 use mathlib.Core.Logic.{_⊎_, inl, inr, ⊎-elim}
 use mathlib.Core.List.{List, [], _∷_, _++_, map, map-append}
-use Rattle.calculus.specs.Sets.{In, here, _⊆_}
-use Rattle.calculus.specs.Sets.Laws.{in-one, in-left, in-right, in-append}
+use Rattle.calculus.specs.Sets.{In, here, there, _⊆_}
+use Rattle.calculus.specs.Sets.Laws.{in-nil, in-one, in-left, in-right, in-append, in-map}
 use Rattle.calculus.specs.Formula.{Fmla, truth, rel, eq, neg, conj, disj, exists, size, Node, node, nodes}
 
 -- The nodes of a formula ω with the children φ and ψ.
@@ -54,6 +55,15 @@ nodes-numbers (neg φ) n = above (neg φ) φ n (nodes-numbers φ n)
 nodes-numbers (conj φ ψ) n = joined-numbers (conj φ ψ) φ ψ n (nodes-numbers φ n) (nodes-numbers ψ (n + size φ))
 nodes-numbers (disj φ ψ) n = joined-numbers (disj φ ψ) φ ψ n (nodes-numbers φ n) (nodes-numbers ψ (n + size φ))
 nodes-numbers (exists z φ) n = above (exists z φ) φ n (nodes-numbers φ n)
+
+in-run : {k : ℕ} (n m : ℕ) → In k (run n m) → k < n + m
+in-run n zero i = absurd (in-nil i)
+in-run n (suc m) (here e) = omega arith
+in-run n (suc m) (there i) = omega (arith, in-run (suc n) m i)
+
+-- So each is below n and the number of nodes.
+pub node-below : (φ χ : Fmla) (n k : ℕ) → In (node k χ) (nodes φ n) → k < n + size φ
+node-below φ χ n k i = in-run n (size φ) (subst (In k) (nodes-numbers φ n) (in-map number-of i))
 
 -- ---- which formulas are at the nodes
 

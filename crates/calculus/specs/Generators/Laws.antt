@@ -9,7 +9,7 @@ use mathlib.Core.Option.{Option, none, some}
 use lib.ListN.{length, length-append, length-map}
 use Rattle.calculus.specs.Sets.{In, here, _⊆_}
 use Rattle.calculus.specs.Sets.Laws.{in-nil, in-one, in-left, in-right, in-append, in-map, from-union, reflects-member}
-use Rattle.calculus.specs.Reflects.{Reflects, holds, fails, reflects-eqb, reflects-map, decided}
+use Rattle.calculus.specs.Reflects.{Reflects, holds, fails, reflects-eqb, reflects-map, reflects-same, decided}
 use Rattle.calculus.specs.Formula.{Term, var, con, Fmla, truth, rel, eq, neg, conj, disj, exists, fv, fv-term, fv-terms, size, node, nodes}
 use Rattle.calculus.specs.Formula.Laws.{formula-of, joined, left-node, right-node}
 use Rattle.calculus.specs.Satisfaction.{Pool, Database, Env, bind, value, values, Sat, known}
@@ -255,6 +255,10 @@ reflects-none φ n x = go (plain-answered φ n x)
     go : {l : Leaves} → Answered x φ n l → Reflects (¬ Generated x φ) (is-none l)
     go (generated-by G d) = fails (λ m. m (G, gen-at-gen d))
     go (not-generated p) = holds p
+
+-- Whether a variable is generated doesn't depend on where the numbering starts.
+pub none-anywhere : (φ : Fmla) (m n x : ℕ) → is-none (plain φ m x) ≡ is-none (plain φ n x)
+none-anywhere φ m n x = reflects-same (reflects-none φ m x) (reflects-none φ n x) (λ g. g) (λ g. g)
 
 pub generated-decided : (x : ℕ) (φ : Fmla) → Generated x φ ⊎ (¬ Generated x φ)
 generated-decided x φ = go (plain-answered φ 0 x)

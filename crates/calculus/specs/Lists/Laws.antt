@@ -5,8 +5,8 @@ use mathlib.Core.Path.{_≡_, refl, ap, _∙_, sym}
 use native.Mathlib.Numerals.{add-one}
 use mathlib.Core.Bool.{Bool, _&&_, _||_, true, false, cond, or-true}
 use mathlib.Core.List.{List, [], _∷_, _++_}
-use lib.ListN.{length, getD, drop, replicate, length-append, length-replicate, take, set}
-use lib.Seq.{drop-cons, take-append-add, ext-getD, set-at, append-snoc}
+use lib.ListN.{length, getD, drop, replicate, length-append, length-replicate, take, set, List·getD-append}
+use lib.Seq.{drop-cons, take-append-add, ext-getD, set-at, append-snoc, set-append-seam}
 use Rattle.calculus.specs.Sets.{all-of, any-of, In, here, there, select}
 use Rattle.calculus.specs.Lists.{tabulate, padded}
 use lib.Dec.{T}
@@ -146,3 +146,39 @@ module _ {A : Type 0} where
   pub tabulate-append : (f : ℕ → A) (k n : ℕ) → tabulate f (k + n) ≡ tabulate f k ++ tabulate (λ i. f (k + i)) n
   tabulate-append f zero n = simp zero-add
   tabulate-append f (suc k) n = simp suc-add (ap (λ l. f zero ∷ l) (tabulate-append (λ i. f (suc i)) k n))
+
+-- ---- a padded list: its places, and what writing to them does
+
+module _ {A : Type 0} (n : ℕ) (z : A) where
+  -- A place that holds an element, and a place that holds a function's value.
+  pub getD-padded : (xs : List A) (c : ℕ) → c < length xs → getD (padded n z xs) c z ≡ getD xs c z
+  getD-padded xs c h = List·getD-append xs (replicate (n - length xs) z) z c h
+
+  pub padded-at : (f : ℕ → A) (i c : ℕ) → c < i → getD (padded n z (tabulate f i)) c z ≡ f c
+  padded-at f i c h = getD-padded (tabulate f i) c (omega (arith, length-tabulate f i)) ∙ getD-tabulate f i c z h
+
+  module _ (xs : List A) where
+    -- The last element is written over.
+    pub padded-over : (v w : A) → set (padded n z (xs ++ (v ∷ []))) (length xs) w ≡ padded n z (xs ++ (w ∷ []))
+    padded-over v w =
+        ap (λ ys. set ys (length xs) w) (append-snoc xs v (replicate (n - length (xs ++ (v ∷ []))) z))
+        ∙ set-append-seam xs v (replicate (n - length (xs ++ (v ∷ []))) z) w
+        ∙ ap (λ k. xs ++ (w ∷ replicate (n - k) z)) (length-append xs (v ∷ []) ∙ sym (length-append xs (w ∷ [])))
+        ∙ sym (append-snoc xs w (replicate (n - length (xs ++ (w ∷ []))) z))
+
+    -- The last element is what fills the rest.
+    pub padded-fill : length xs < n → padded n z (xs ++ (z ∷ [])) ≡ padded n z xs
+    padded-fill h =
+        let e : suc (n - length (xs ++ (z ∷ []))) ≡ n - length xs = omega (arith, length-append xs (z ∷ [])) in
+        append-snoc xs z (replicate (n - length (xs ++ (z ∷ []))) z)
+        ∙ ap (λ k. xs ++ replicate k z) e
+
+    -- One element more.
+    pub padded-put : (w : A) → length xs < n → set (padded n z xs) (length xs) w ≡ padded n z (xs ++ (w ∷ []))
+    padded-put w h = ap (λ ys. set ys (length xs) w) (sym (padded-fill h)) ∙ padded-over z w
+
+  pub padded-next : (f : ℕ → A) (i : ℕ) → i < n → set (padded n z (tabulate f i)) i (f i) ≡ padded n z (tabulate f (i + 1))
+  padded-next f i h =
+      ap (λ k. set (padded n z (tabulate f i)) k (f i)) (sym (length-tabulate f i))
+      ∙ padded-put (tabulate f i) (f i) (omega (arith, length-tabulate f i))
+      ∙ ap (padded n z) (sym (tabulate-next f i) ∙ ap (tabulate f) (sym (add-one i)))

@@ -1,15 +1,16 @@
 -- Laws of constant propagation. Each clause of cp has a view, a data type of what it can come to; every law goes by the views.
-use Prim.Native.Nat.{ℕ}
+use Prim.Native.Nat.{ℕ, _+_, _≤_}
+use native.Mathlib.Omega.{arith}
 use mathlib.Core.Path.{_≡_, refl, sym, ap, subst, subst⁻¹, _∙_}
 use mathlib.Core.Logic.{_↔_, Iff·rfl, Iff·trans, Iff·not, Iff·and, inl, inr, ⊎-elim}
 use mathlib.Core.Bool.{Bool, true, false, not, cond}
 use mathlib.Core.List.{List, [], _∷_, _++_}
-use lib.Dec.{T}
+use lib.Dec.{T, eqb}
 use Rattle.calculus.specs.Sets.{In, _⊆_, union-of}
 use Rattle.calculus.specs.Sets.Laws.{in-nil, in-left, in-right, in-append-map, in-remove, from-remove, reflects-member}
 use Rattle.calculus.specs.Iff.{iff-either, iff-some}
 use Rattle.calculus.specs.Reflects.{Reflects, holds, fails, reflects-true, reflects-false, reflects-eqb}
-use Rattle.calculus.specs.Formula.{Term, var, con, Fmla, truth, rel, eq, neg, conj, disj, exists, fv, gather, relations, places, places-term}
+use Rattle.calculus.specs.Formula.{Term, var, con, Fmla, truth, rel, eq, neg, conj, disj, exists, fv, gather, relations, places, places-term, size}
 use Rattle.calculus.specs.Satisfaction.{Pool, Database, Env, bind, Sat, known}
 use Rattle.calculus.specs.Satisfaction.Laws.{sat-agree, bind-other, known-mono}
 use Rattle.calculus.specs.Propagation.{exists-free, is-truth, truth-of, cp-eq, cp-neg, cp-conj, cp-disj, cp, Nocp, Propagated}
@@ -341,3 +342,41 @@ propagated-cp (exists z φ) = exists-propagated z (exists-view z (cp φ)) (propa
 -- 000: cp_idem.
 pub cp-idempotent : (φ : Fmla) → cp (cp φ) ≡ cp φ
 cp-idempotent φ = ⊎-elim (nocp-cp (cp φ)) (λ t. a-truth-stays (cp φ) t) (propagated-cp φ)
+
+-- ---- the form has no more nodes than the query
+
+neg-size : {φ χ : Fmla} → NegView φ χ → size χ ≤ size φ + 1
+neg-size (neg-truth b) = omega arith
+neg-size (neg-other e) = omega arith
+
+size-join : (u : Bool) (φ ψ : Fmla) → size (join u φ ψ) ≡ size φ + size ψ + 1
+size-join true φ ψ = refl
+size-join false φ ψ = refl
+
+join-size : (u : Bool) {φ ψ χ : Fmla} → JoinView u φ ψ χ → size χ ≤ size φ + size ψ + 1
+join-size u left-unit = omega arith
+join-size u left-zero = omega arith
+join-size u (right-unit e) = omega arith
+join-size u (right-zero e) = omega arith
+join-size u (neither {φ} {ψ} e f) = omega (arith, size-join u φ ψ)
+
+exists-size : (z : ℕ) {φ χ : Fmla} → ExistsView z φ χ → size χ ≤ size φ + 1
+exists-size z (kept i) = omega arith
+exists-size z (dropped n) = omega arith
+
+eq-size : (x : ℕ) (t : Term) → size (cp-eq x t) ≡ 1
+eq-size x (con p) = refl
+eq-size x (var y) = go (eqb x y)
+  where
+    go : (b : Bool) → size (cond b (truth true) (eq x (var y))) ≡ 1
+    go true = refl
+    go false = refl
+
+pub size-cp : (φ : Fmla) → size (cp φ) ≤ size φ
+size-cp (truth b) = omega arith
+size-cp (rel r ts) = omega arith
+size-cp (eq x t) = omega (arith, eq-size x t)
+size-cp (neg φ) = omega (arith, neg-size (neg-view (cp φ)), size-cp φ)
+size-cp (conj φ ψ) = omega (arith, join-size true (join-view true (cp φ) (cp ψ)), size-cp φ, size-cp ψ)
+size-cp (disj φ ψ) = omega (arith, join-size false (join-view false (cp φ) (cp ψ)), size-cp φ, size-cp ψ)
+size-cp (exists z φ) = omega (arith, exists-size z (exists-view z (cp φ)), size-cp φ)

@@ -4,13 +4,13 @@ use native.Mathlib.Omega.{arith}
 use mathlib.Core.Path.{_≡_, refl, sym, ap, subst, subst⁻¹, _∙_}
 use mathlib.Core.Bool.{Bool, true, false, true≢false, not, _&&_, cond}
 use mathlib.Core.List.{List, [], _∷_, _++_, map}
-use lib.ListN.{length, getD, take, length-map, List·getD-append, replicate}
+use lib.ListN.{length, getD, take, length-map, length-take, List·getD-append, replicate}
 use lib.Seq.{length-take-le, take-append-seam}
 use lib.Dec.{T, leb, ltb, eqb}
 use borrow.Author.Tests.{leb-false, ltb-false, eqb-false}
 use Rattle.calculus.specs.Sets.{In, here, there, any-of}
 use Rattle.calculus.specs.Sets.Laws.{from-map}
-use Rattle.calculus.specs.Lists.Laws.{length-tabulate, or-fails, any-of-false, from-tabulate}
+use Rattle.calculus.specs.Lists.Laws.{length-tabulate, length-padded, getD-padded, place-of, or-fails, any-of-false, from-tabulate}
 use Rattle.calculus.specs.Reflects.{Reflects, holds, fails, reflects-T, reflects-false, reflects-eqb}
 use Rattle.calculus.specs.Formula.{Term, var, con, Fmla, rel, size}
 use Rattle.calculus.specs.Satisfaction.{Pool}
@@ -19,9 +19,10 @@ use Rattle.causes.specs.declared.Answer.{Answer}
 use Rattle.causes.specs.declared.Answer.the-variants.{Done, Refused}
 use Rattle.causes.specs.Causes.{clear, first-cause, when, widths-fit}
 use Rattle.causes.specs.Causes.Laws.{width-fits, first-done, AllClear, first-cause-done, when-clear, lowest-clear}
+use Rattle.query.specs.declared.Query.{Query}
 use Rattle.query.specs.Nodes.{relation, term-count, terms, variable, equal-term, left, right, under, children, uses, malformed, misplaced, is-stray, strays, mismatched}
 use Rattle.query.specs.Decoding.{term-of, node-formula, formula-at, root}
-use Rattle.query.specs.Decoding.Laws.{Kind, is-truth, is-record, is-equality, is-not, is-and, is-or, is-exists, is-none, kind-of, formula-step}
+use Rattle.query.specs.Decoding.Laws.{Kind, is-truth, is-record, is-equality, is-not, is-and, is-or, is-exists, is-none, kind-of, formula-step, formula-stable, root-take}
 use Rattle.query.specs.Reading.{max-nodes, max-constants, max-columns, count-of-nodes, count-of-constants, word-at, constants-of, nodes-of, header-checks, tree-checks, column-checks, read-checks, query-of, columns-of, refusal, accepted, read-reply, read-of, pool, nodes-in, formula}
 use Rattle.query.specs.Reading.Laws.{Headed, header-done}
 use Rattle.query.specs.Packing.{words, pack, TermFits, var-fits, con-fits, Fits, truth-fits, rel-fits, eq-fits, neg-fits, conj-fits, disj-fits, exists-fits, Packable}
@@ -72,6 +73,19 @@ module _ (ws : List ℕ) (k : ℕ) (widths : T (widths-fit ws)) where
       go (is-exists e) = let r = rw e at h in rw e (exists-fits {x = variable w} (omega arith) (r (under w) (here refl)))
       go (is-none j e) = absurd (true≢false (rw e at f))
 
+-- Of the first n nodes, each without faults and with its children below it.
+module _ (ws : List ℕ) (k : ℕ) (ns : List ℕ) (n : ℕ) (widths : T (widths-fit ws))
+    (below : (i : ℕ) → i < n → (c : ℕ) → In c (children (getD ns i 0)) → c < i)
+    (formed : (i : ℕ) → i < n → malformed (getD ns i 0) ≡ false)
+    (held : (i : ℕ) → i < n → strays k (getD ns i 0) ≡ false)
+    (matched : (i : ℕ) → i < n → mismatched ws (getD ns i 0) ≡ false) where
+  fits-below : (m : ℕ) → m ≤ n → (i : ℕ) → i < m → Fits ws k (formula-at ns i)
+  fits-below zero l i h = absurd (omega arith)
+  fits-below (suc m) l i h = subst⁻¹ (Fits ws k) (formula-step ns i (below i j)) (node-fits ws k widths (getD ns i 0) (formula-at ns) (formed i j) (held i j) (matched i j) (λ c d. let b : c < i = below i j c d in fits-below m (omega arith) c (omega arith)))
+    where
+      j : i < n
+      j = omega arith
+
 -- ---- what the checks leave
 
 -- Of the constants cs and the nodes ns.
@@ -100,19 +114,12 @@ module _ (ws cs ns : List ℕ) (c : Checked ws cs ns) where
       inner : eqb (i + 1) (length ns) ≡ false
       inner = reflects-false (reflects-eqb (i + 1) (length ns)) (λ e. omega arith)
 
-  fits-below : (n : ℕ) → n ≤ length ns → (i : ℕ) → i < n → Fits ws (length cs) (formula-at ns i)
-  fits-below zero l i h = absurd (omega arith)
-  fits-below (suc n) l i h = subst⁻¹ (Fits ws (length cs)) (formula-step ns i (children-below i j)) (node-fits ws (length cs) (c .widths) (getD ns i 0) (formula-at ns) (c .formed i j) (c .constants-held i j) (c .relations-held i j) (λ d m. let b : d < i = children-below i j d m in fits-below n (omega arith) d (omega arith)))
-    where
-      j : i < length ns
-      j = omega arith
-
   pub size-right : size (root ns) ≡ length ns
   size-right = root-size ns children-below once (c .some-node)
 
   fit-to-pack : Packable ws cs (root ns)
   fit-to-pack = record {
-    fits = fits-below (length ns) (omega arith) (length ns - 1) (omega (arith, c .some-node));
+    fits = fits-below ws (length cs) ns (length ns) (c .widths) children-below (c .formed) (c .constants-held) (c .relations-held) (length ns) (omega arith) (length ns - 1) (omega (arith, c .some-node));
     few-nodes = omega (arith, size-right, c .few-nodes);
     few-constants = c .few-constants;
     constants-fit = c .constants-fit;
@@ -121,13 +128,13 @@ module _ (ws cs ns : List ℕ) (c : Checked ws cs ns) where
 
 -- ---- the query of constants and nodes
 
-pool-of : (cs ns : List ℕ) → pool (query-of cs ns) ≡ cs
+pub pool-of : (cs ns : List ℕ) → pool (query-of cs ns) ≡ cs
 pool-of cs ns = take-append-seam cs (replicate (max-constants - length cs) 0)
 
-nodes-of-query : (cs ns : List ℕ) → nodes-in (query-of cs ns) ≡ ns
+pub nodes-of-query : (cs ns : List ℕ) → nodes-in (query-of cs ns) ≡ ns
 nodes-of-query cs ns = take-append-seam ns (replicate (max-nodes - length ns) 0)
 
-node-at : (cs ns : List ℕ) (i : ℕ) → i < length ns → getD (query-of cs ns .nodes) i 0 ≡ getD ns i 0
+pub node-at : (cs ns : List ℕ) (i : ℕ) → i < length ns → getD (query-of cs ns .nodes) i 0 ≡ getD ns i 0
 node-at cs ns i h = List·getD-append ns (replicate (max-nodes - length ns) 0) 0 i h
 
 checked-accepted : (ws cs ns : List ℕ) → Checked ws cs ns → Accepted ws (query-of cs ns)
@@ -188,7 +195,7 @@ module _ (ws bs : List ℕ) where
 word-fits : (bs : List ℕ) → ((i : ℕ) → getD bs i 0 < 256) → (i : ℕ) → word-at bs i < 2 ^ 32
 word-fits bs b i = omega (arith, b i, b (i + 1), b (i + 2), b (i + 3))
 
-constant-fits : (bs : List ℕ) → ((i : ℕ) → getD bs i 0 < 256) → (v : ℕ) → In v (constants-of bs) → v < 2 ^ 32
+pub constant-fits : (bs : List ℕ) → ((i : ℕ) → getD bs i 0 < 256) → (v : ℕ) → In v (constants-of bs) → v < 2 ^ 32
 constant-fits bs b v m = let r = from-tabulate (λ i. word-at bs (2 + 4 * i)) (count-of-constants bs) m in subst⁻¹ (λ x. x < 2 ^ 32) (r .2) (word-fits bs b (2 + 4 * r .0))
 
 constants-length : (bs : List ℕ) → length (constants-of bs) ≡ count-of-constants bs
@@ -197,7 +204,8 @@ constants-length bs = length-tabulate (λ i. word-at bs (2 + 4 * i)) (count-of-c
 pub nodes-length : (bs : List ℕ) → length (nodes-of bs) ≡ count-of-nodes bs
 nodes-length bs = length-tabulate (λ i. word-at bs (2 + 4 * count-of-constants bs + 4 * i)) (count-of-nodes bs)
 
-module _ (ws bs : List ℕ) (bytes : (i : ℕ) → getD bs i 0 < 256) (h : read-of ws bs .answer ≡ Done) where
+-- The constants are 32-bit numbers.
+module _ (ws bs : List ℕ) (small : (v : ℕ) → In v (constants-of bs) → v < 2 ^ 32) (h : read-of ws bs .answer ≡ Done) where
   tree-clear : AllClear (tree-checks ws (count-of-constants bs) (nodes-of bs) ++ column-checks (nodes-of bs))
   tree-clear = checks-clear ws bs h .1 .1 .1 .1
 
@@ -212,11 +220,24 @@ module _ (ws bs : List ℕ) (bytes : (i : ℕ) → getD bs i 0 < 256) (h : read-
     constants-held = (λ i l. subst⁻¹ (λ k. strays k (getD (nodes-of bs) i 0) ≡ false) (constants-length bs) (lowest-clear (λ j. strays (count-of-constants bs) (getD (nodes-of bs) j 0)) (length (nodes-of bs)) (tree-clear .1 .1 .0) i l));
     relations-held = lowest-clear (λ i. mismatched ws (getD (nodes-of bs) i 0)) (length (nodes-of bs)) (tree-clear .1 .1 .1 .0);
     few-columns = ltb-false max-columns (length (columns (root (nodes-of bs)))) (when-clear (ltb max-columns (length (columns (root (nodes-of bs))))) (tree-clear .1 .1 .1 .1 .0));
-    constants-fit = constant-fits bs bytes;
+    constants-fit = small;
   }
 
-  pub read-accepted : Accepted ws (read-of ws bs .query)
-  read-accepted = subst⁻¹ (λ r. Accepted ws (r .query)) (read-done ws bs h) (checked-accepted ws (constants-of bs) (nodes-of bs) read-checked)
+  small-accepted : Accepted ws (read-of ws bs .query)
+  small-accepted = subst⁻¹ (λ r. Accepted ws (r .query)) (read-done ws bs h) (checked-accepted ws (constants-of bs) (nodes-of bs) read-checked)
+
+-- So they are where the bytes are bytes, and where the reader's array of them is one of 32-bit numbers, as a caller sees it.
+pub read-accepted : (ws bs : List ℕ) → ((i : ℕ) → getD bs i 0 < 256) → read-of ws bs .answer ≡ Done → Accepted ws (read-of ws bs .query)
+read-accepted ws bs b h = small-accepted ws bs (constant-fits bs b) h
+
+pub reading-accepted : (ws bs : List ℕ) → ((i : ℕ) → getD (read-of ws bs .query .constants) i 0 < 2 ^ 32) → read-of ws bs .answer ≡ Done → Accepted ws (read-of ws bs .query)
+reading-accepted ws bs f h = small-accepted ws bs held h
+  where
+    held : (v : ℕ) → In v (constants-of bs) → v < 2 ^ 32
+    held v i =
+        let r = place-of 0 (constants-of bs) i in
+        let e = ap (λ q. getD (q .query .constants) (r .0) 0) (read-done ws bs h) ∙ getD-padded max-constants 0 (constants-of bs) (r .0) (r .1) in
+        subst⁻¹ (λ u. u < 2 ^ 32) (r .2 ∙ sym e) (f (r .0))
 
 -- ---- the packing of a formula
 
@@ -225,3 +246,25 @@ pub packed-accepted : (ws : List ℕ) (cs : Pool) (φ : Fmla) → T (widths-fit 
 packed-accepted ws cs φ t p =
     let e = read-pack ws cs φ t p .0 in
     subst (λ r. Accepted ws (r .query)) e (read-accepted ws (pack cs φ) (bytes-at (pack cs φ) (pack-small ws cs φ t p)) (ap (λ r. r .answer) e))
+
+-- ---- the formula of a node
+
+module _ (ws : List ℕ) (q : Query) (a : Accepted ws q) where
+  pub formula-node : (i : ℕ) → i < q .«node_count» → formula-at (q .nodes) i ≡ node-formula (getD (q .nodes) i 0) (formula-at (q .nodes))
+  formula-node i h = formula-step (q .nodes) i (a .children-below i h)
+
+  pub formula-fits : (i : ℕ) → i < q .«node_count» → Fits ws (q .«constant_count») (formula-at (q .nodes) i)
+  formula-fits i h =
+      fits-below ws (q .«constant_count») (q .nodes) (q .«node_count») (a .widths-right) (a .children-below) (a .formed) (a .constants-held) (a .relations-held) (q .«node_count») (omega arith) i h
+
+  nodes-few : length (nodes-in q) ≤ max-nodes
+  nodes-few = simp length-take (omega (arith, a .few-nodes))
+
+  pub nodes-length-is : length (q .nodes) ≡ max-nodes
+  nodes-length-is = ap (λ r. length (r .nodes)) (a .whole) ∙ length-padded max-nodes 0 (nodes-in q) nodes-few
+
+  pub formula-last : formula q ≡ formula-at (q .nodes) (q .«node_count» - 1)
+  formula-last =
+      let n : ℕ = q .«node_count» in
+      let s : 1 ≤ n = a .some-node in
+      root-take (q .nodes) n s (omega (arith, nodes-length-is, a .few-nodes)) ∙ formula-stable (q .nodes) n (n - 1) (omega arith)

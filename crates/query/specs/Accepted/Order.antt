@@ -21,12 +21,13 @@ use Rattle.query.specs.Nodes.{kind, truth-bit, relation, term-count, ter
 use Rattle.query.specs.Decoding.{term-of, node-formula, formula-at, root}
 use Rattle.query.specs.Decoding.Laws.{Kind, is-truth, is-record, is-equality, is-not, is-and, is-or, is-exists, is-none, kind-of, formula-step}
 use Rattle.query.specs.Reading.{constants-of, nodes-of, read-of, pool, formula}
-use Rattle.query.specs.Packing.{term-code, terms-code, words, packed-bytes, pack, Ordered, after-child, after-both, InOrder}
+use Rattle.query.specs.Packing.{term-code, terms-code, words, packed-bytes, pack, Ordered, InOrder}
+use Rattle.query.specs.Packing.Trees.{after-one, after-two}
 use Rattle.query.specs.Packing.Bytes.{Bytes, bytes-at, packed-again}
 use Rattle.query.specs.Packing.Laws.{length-words, Placed}
-use Rattle.query.specs.Accepted.Laws.{confirmed, Checked, children-below, size-right, read-pool, read-formula, read-headed, read-checked}
+use Rattle.query.specs.Accepted.Laws.{confirmed, Checked, children-below, size-right, read-pool, read-formula, read-headed, constant-fits, read-checked}
 
-nonzero-false : (n : ℕ) → nonzero n ≡ false → n ≡ 0
+pub nonzero-false : (n : ℕ) → nonzero n ≡ false → n ≡ 0
 nonzero-false n e = confirmed (reflects-eqb n 0) e
 
 all-zero : (xs : List ℕ) → any-of nonzero xs ≡ false → (i : ℕ) → getD xs i 0 ≡ 0
@@ -43,14 +44,14 @@ code-of-term c h = go (decLt c 16)
     go (yes l) = rw (lt-leb 16 c l) (omega arith)
     go (no l) = rw (le-leb 16 c (omega arith)) (omega arith)
 
-truth-again : (w : ℕ) → kind w ≡ 0 → w % 268435456 ≡ 0 → w ≡ cond (eqb (truth-bit w) 1) 268435456 0
+pub truth-again : (w : ℕ) → kind w ≡ 0 → w % 268435456 ≡ 0 → w ≡ cond (eqb (truth-bit w) 1) 268435456 0
 truth-again w e z = go (decLt w 268435456)
   where
     go : Dec (w < 268435456) → w ≡ cond (eqb (truth-bit w) 1) 268435456 0
     go (yes l) = let d : w ≡ 0 = omega arith in subst⁻¹ (λ u. u ≡ cond (eqb (truth-bit u) 1) 268435456 0) d refl
     go (no l) = let d : w ≡ 268435456 = omega arith in subst⁻¹ (λ u. u ≡ cond (eqb (truth-bit u) 1) 268435456 0) d refl
 
-equality-again : (w : ℕ) → kind w ≡ 2 → w % 1048576 ≡ 0 → w ≡ 2 * 536870912 + variable w * 33554432 + term-code (term-of (equal-term w)) * 1048576
+pub equality-again : (w : ℕ) → kind w ≡ 2 → w % 1048576 ≡ 0 → w ≡ 2 * 536870912 + variable w * 33554432 + term-code (term-of (equal-term w)) * 1048576
 equality-again w e z = omega (arith, code-of-term (equal-term w) (omega arith))
 
 -- Of four terms, the first n are in use, and the others are zero.
@@ -74,10 +75,10 @@ record-fields w e z =
     (omega arith) (omega arith) (omega arith) (omega arith) (omega arith) (omega arith) (omega arith)
 
 -- The terms in use of a record.
-abbrev terms-in : ℕ → List Term
+abbrev pub terms-in : ℕ → List Term
 terms-in w = map term-of (take (term-count w) (terms w))
 
-record-again : (w : ℕ) → kind w ≡ 1 → term-count w ≤ 4 → (nonzero (w % 4) || any-of nonzero (drop (term-count w) (terms w))) ≡ false
+pub record-again : (w : ℕ) → kind w ≡ 1 → term-count w ≤ 4 → (nonzero (w % 4) || any-of nonzero (drop (term-count w) (terms w))) ≡ false
     → w ≡ 536870912 + relation w * 33554432 + length (terms-in w) * 4194304 + terms-code (terms-in w)
 record-again w e n f =
     let z = or-fails (nonzero (w % 4)) (any-of nonzero (drop (term-count w) (terms w))) f in
@@ -145,12 +146,6 @@ module _ (ns : List ℕ) where
             (omega (arith, length-words φ (r .0))),
       )
 
-  after-one : {i c : ℕ} → Ordered ns i (c ∷ []) → c + 1 ≡ i
-  after-one (after-child h) = h
-
-  after-two : {i l r : ℕ} → Ordered ns i (l ∷ r ∷ []) → (l + size (formula-at ns r) ≡ r) × (r + 1 ≡ i)
-  after-two (after-both g h) = (g, h)
-
   module _ (c w : ℕ) (at : getD ns c 0 ≡ w) (before : (d : ℕ) → d < c → Ends d (formula-at ns d)) where
     -- What is known of a node above two children.
     abbrev Both : Type 0
@@ -182,7 +177,7 @@ module _ (ns : List ℕ) where
 
 -- ---- the words of the root's formula are the nodes
 
-record-width : (ws : List ℕ) (w : ℕ) → T (widths-fit ws) → mismatched ws w ≡ false → kind w ≡ 1 → term-count w ≤ 4
+pub record-width : (ws : List ℕ) (w : ℕ) → T (widths-fit ws) → mismatched ws w ≡ false → kind w ≡ 1 → term-count w ≤ 4
 record-width ws w t m e =
     let d : (eqb (getD ws (relation w) 0) 0 || not (eqb (term-count w) (getD ws (relation w) 0))) ≡ false = rw e at m in
     omega (arith, width-fits ws t (relation w), confirmed (reflects-eqb (term-count w) (getD ws (relation w) 0)) (or-fails (eqb (getD ws (relation w) 0) 0) (not (eqb (term-count w) (getD ws (relation w) 0))) d .1))
@@ -214,5 +209,5 @@ module _ (ws cs ns : List ℕ) (checked : Checked ws cs ns) (order : InOrder ns)
 pub pack-read : (ws bs : List ℕ) → Bytes bs → InOrder (nodes-of bs) → read-of ws bs .answer ≡ Done → pack (pool (read-of ws bs .query)) (formula (read-of ws bs .query)) ≡ bs
 pack-read ws bs bytes order done =
     (λ i. pack (read-pool ws bs done i) (read-formula ws bs done i))
-    ∙ ap (packed-bytes (constants-of bs)) (words-again ws (constants-of bs) (nodes-of bs) (read-checked ws bs (bytes-at bs bytes) done) order)
+    ∙ ap (packed-bytes (constants-of bs)) (words-again ws (constants-of bs) (nodes-of bs) (read-checked ws bs (constant-fits bs (bytes-at bs bytes)) done) order)
     ∙ packed-again bs bytes (read-headed ws bs done .first) (read-headed ws bs done .whole)

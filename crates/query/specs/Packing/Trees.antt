@@ -3,7 +3,7 @@ use Prim.Native.Nat.{ℕ, zero, suc, _+_, _-_, _≤_, _<_}
 use native.Mathlib.Decide.{decLe, decLt}
 use native.Mathlib.Omega.{arith}
 use mathlib.Core.Path.{_≡_, refl, sym, ap, subst, subst⁻¹, _∙_}
-use mathlib.Core.Bool.{Bool, true, false, _&&_}
+use mathlib.Core.Bool.{false, and-false}
 use mathlib.Core.List.{List, [], _∷_, _++_, append-nil}
 use lib.ListN.{length, getD, take}
 use lib.Seq.{take-suc, take-length}
@@ -37,6 +37,13 @@ ordered-below ns childless j = absurd (in-nil j)
 ordered-below ns (after-child h) j = omega (arith, in-one j)
 ordered-below ns (after-both g h) (here e) = omega arith
 ordered-below ns (after-both g h) (there j) = omega (arith, in-one j)
+
+-- Where an only child stands, and where two.
+pub after-one : {ns : List ℕ} {i c : ℕ} → Ordered ns i (c ∷ []) → c + 1 ≡ i
+after-one (after-child h) = h
+
+pub after-two : {ns : List ℕ} {i l r : ℕ} → Ordered ns i (l ∷ r ∷ []) → (l + size (formula-at ns r) ≡ r) × (r + 1 ≡ i)
+after-two (after-both g h) = (g, h)
 
 below-clear : (i : ℕ) (cs : List ℕ) → ((x : ℕ) → In x cs → x < i) → any-of (leb i) cs ≡ false
 below-clear i [] h = refl
@@ -142,10 +149,6 @@ tree-counts {ns = ns} {n} (one {c = c} up z s b) = counts-one ns n c (b .childre
 tree-counts {ns = ns} {n} (two {b = a} {c} up z s t b) = counts-two ns n a c (b .children-are) (λ x. tree-counts s x) (λ x. tree-counts t x)
 
 -- ---- the checks of the nodes find nothing
-
-and-false : (b : Bool) → b && false ≡ false
-and-false true = refl
-and-false false = refl
 
 module _ {ws : List ℕ} {k : ℕ} {ns : List ℕ} {c : ℕ} {φ : Fmla} (t : Tree ws k ns 0 c φ) (e : length ns ≡ suc c) where
   pub sound : (i : ℕ) → i < length ns → Sound ws k ns i

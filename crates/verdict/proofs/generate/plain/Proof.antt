@@ -1,0 +1,146 @@
+-- `verdict::generate::plain` meets its contract: each arm gives what `plain-in` has for its kind.
+use borrow.Author.Needs.{needs}
+use borrow.Author.Tests.{eq-eqb, ne-eqb, le-ltb, lt-ltb}
+use Rattle.query.specs.Nodes.{truth-bit, equal-term}
+use Rattle.verdict.proofs.Sets.{last-kind}
+use Rattle.verdict.proofs.generate.plain.Statement.{statement}
+use Rattle.verdict.proofs.generate.plain.Tie as tie
+
+cast-left : tie.Need-cast-left
+cast-left c = search needs
+
+cast-right : tie.Need-cast-right
+cast-right c = search needs
+
+cast-under : tie.Need-cast-under
+cast-under c = search needs
+
+returns : tie.Need-returns
+returns c = rw (c .before .match .keys1, eq-eqb (truth-bit (c .before .before .args .w)) 1 (c .if1 .taken))
+
+term-bits-requires : tie.Need-term-bits-requires
+term-bits-requires c κs = search needs
+
+returns-2 : tie.Need-returns-2
+returns-2 c = rw (c .before .match .keys3, lt-ltb (equal-term (c .before .before .args .w)) 16 (c .if2 .taken))
+
+term-bit-requires : tie.Need-term-bit-requires
+term-bit-requires c κs = search needs
+
+mul-result : tie.Need-mul-result
+mul-result c = search needs
+
+element-copy-out-result : tie.Need-element-copy-out-result
+element-copy-out-result c = search needs
+
+mul-result-2 : tie.Need-mul-result-2
+mul-result-2 c = search needs
+
+element-copy-out-result-2 : tie.Need-element-copy-out-result-2
+element-copy-out-result-2 c = search needs
+
+mul-result-3 : tie.Need-mul-result-3
+mul-result-3 c = search needs
+
+element-copy-out-result-3 : tie.Need-element-copy-out-result-3
+element-copy-out-result-3 c = search needs
+
+mul-equated : tie.Need-mul-equated
+mul-equated c = search needs
+
+element-copy-out-equated : tie.Need-element-copy-out-equated
+element-copy-out-equated c = search needs
+
+mul-equated-2 : tie.Need-mul-equated-2
+mul-equated-2 c = search needs
+
+element-copy-out-equated-2 : tie.Need-element-copy-out-equated-2
+element-copy-out-equated-2 c = search needs
+
+equated-requires : tie.Need-equated-requires
+equated-requires c κs = search needs
+
+mul-result-4 : tie.Need-mul-result-4
+mul-result-4 c = search needs
+
+element-copy-out-result-4 : tie.Need-element-copy-out-result-4
+element-copy-out-result-4 c = search needs
+
+mul-result-5 : tie.Need-mul-result-5
+mul-result-5 c = search needs
+
+element-copy-out-result-5 : tie.Need-element-copy-out-result-5
+element-copy-out-result-5 c = search needs
+
+mul-leave-out : tie.Need-mul-leave-out
+mul-leave-out c = search needs
+
+element-copy-out-leave-out : tie.Need-element-copy-out-leave-out
+element-copy-out-leave-out c = search needs
+
+leave-out-requires : tie.Need-leave-out-requires
+leave-out-requires c κs = search needs
+
+returns-3 : tie.Need-returns-3
+returns-3 c = rw (c .before .match .keys1, ne-eqb (truth-bit (c .before .before .args .w)) 1 (c .if1 .left))
+
+returns-4 : tie.Need-returns-4
+returns-4 c = rw (c .before .match .keys2, c .term-bits .ensures)
+
+returns-5 : tie.Need-returns-5
+returns-5 c = rw (c .before .before .match .keys3, le-ltb (equal-term (c .before .before .before .args .w)) 16 (c .before .if2 .left), c .term-bit .ensures)
+
+returns-6 : tie.Need-returns-6
+returns-6 c = rw (c .before .match .keys4)
+
+returns-7 : tie.Need-returns-7
+returns-7 c = rw (c .before .before .before .before .before .match .keys5, c .equated .ensures)
+
+returns-8 : tie.Need-returns-8
+returns-8 c = rw (c .before .before .match .keys6)
+
+returns-9 : tie.Need-returns-9
+returns-9 c = rw (c .before .before .match .keys7, c .leave-out .ensures)
+
+returns-10 : tie.Need-returns-10
+returns-10 c =
+    let r = c .match .rest in
+    rw (last-kind (c .before .args .w) (c .before .fits .w .fits) (r .0 .0 .0 .0 .0 .0 .1) (r .0 .0 .0 .0 .0 .1) (r .0 .0 .0 .0 .1) (r .0 .0 .0 .1) (r .0 .0 .1) (r .0 .1) (r .1))
+
+pub plain-spec : {M : Type 1} → statement M
+plain-spec =
+    tie.close
+    (tie.spec
+    cast-left
+    cast-right
+    cast-under
+    returns
+    term-bits-requires
+    returns-2
+    term-bit-requires
+    mul-result
+    element-copy-out-result
+    mul-result-2
+    element-copy-out-result-2
+    mul-result-3
+    element-copy-out-result-3
+    mul-equated
+    element-copy-out-equated
+    mul-equated-2
+    element-copy-out-equated-2
+    equated-requires
+    mul-result-4
+    element-copy-out-result-4
+    mul-result-5
+    element-copy-out-result-5
+    mul-leave-out
+    element-copy-out-leave-out
+    leave-out-requires
+    returns-3
+    returns-4
+    returns-5
+    returns-6
+    returns-7
+    returns-8
+    returns-9
+    returns-10)

@@ -1,0 +1,432 @@
+-- The proof of the cycle of calls {denied, plain}. Every call goes to a child, whose number is below its node's: the measure is the node's number.
+-- Each way to return is one law of document 01's order: the sets show which way the order takes, and the calls give the nodes there.
+use native.Mathlib.Omega.{arith}
+use borrow.Author.Needs.{needs}
+use borrow.Author.Tests.{not-true, not-false}
+use Prim.Native.Nat.{ℕ, zero, suc, _≤_, _<_}
+use mathlib.Core.Path.{_≡_, refl, sym, ap, subst, _∙_}
+use mathlib.Core.Logic.{_⊎_, inl, inr}
+use mathlib.Core.Bool.{Bool, true, false}
+use mathlib.Core.List.{List, [], _∷_}
+use lib.ListN.{getD}
+use Rattle.calculus.specs.Sets as sets
+use Rattle.query.specs.Nodes.{kind, left, right, under, children}
+use Rattle.query.specs.Nodes.Laws.{children-not, children-two, children-exists}
+use Rattle.verdict.specs.Bits.{has}
+use Rattle.verdict.specs.Form.{IsForm}
+use Rattle.verdict.specs.Generating.{plain-bits, denied-bits, sets-of, plain-nodes, other-side}
+use Rattle.verdict.specs.Generating.Variables.{child-below}
+use Rattle.verdict.specs.Generating.Sources as order
+use borrow.Fn.Kinds.{In}
+use borrow.Fn.PlainCycle.{Measures, is, falls, and}
+use Rattle.verdict.proofs.source.denied.Reads as denied
+use Rattle.verdict.proofs.source.denied.Kinds as denied-kinds
+use Rattle.verdict.proofs.source.+denied+plain.Lts-denied as denied-lts
+use Rattle.verdict.proofs.source.plain.Reads as plain
+use Rattle.verdict.proofs.source.plain.Kinds as plain-kinds
+use Rattle.verdict.proofs.source.+denied+plain.Lts-plain as plain-lts
+use Rattle.verdict.proofs.bits.is_in.Reads as is-in-reads
+use Rattle.verdict.proofs.bits.node_bit.Reads as node-bit-reads
+use Rattle.verdict.proofs.source.other.Reads as other-reads
+use Rattle.verdict.proofs.source.+denied+plain.{statement}
+use Rattle.verdict.proofs.source.+denied+plain.Tie.{close}
+
+-- ---- a node and its children
+
+-- An and or an or: a node with two children.
+abbrev HasTwo : ℕ → Type 0
+HasTwo w = (kind w ≡ 4) ⊎ (kind w ≡ 5)
+
+two-children : (w : ℕ) → HasTwo w → children w ≡ left w ∷ right w ∷ []
+two-children w (inl k) = children-two w (omega arith) (omega arith)
+two-children w (inr k) = children-two w (omega arith) (omega arith)
+
+left-child : (w : ℕ) → HasTwo w → sets.In (left w) (children w)
+left-child w k = rw (two-children w k) (sets.here refl)
+
+right-child : (w : ℕ) → HasTwo w → sets.In (right w) (children w)
+right-child w k = rw (two-children w k) (sets.there (sets.here refl))
+
+-- The kinds of a record and an equality.
+leaf-kind : (k : ℕ) → 1 ≤ k → k < 3 → (k ≡ 1) ⊎ (k ≡ 2)
+leaf-kind zero a b = absurd (omega arith)
+leaf-kind (suc zero) a b = inl refl
+leaf-kind (suc (suc zero)) a b = inr refl
+leaf-kind (suc (suc (suc k))) a b = absurd (omega arith)
+
+-- What a test shows of the set that a list holds at c.
+shown : {r b : Bool} {l m : List ℕ} (set c x : ℕ) → l ≡ m → getD m c 0 ≡ set → r ≡ has 16 (getD l c 0) x → r ≡ b → has 16 set x ≡ b
+shown set c x p q e f = cc
+
+-- What both functions ask for, and what they are given at the measure t.
+abbrev Asked : List ℕ → List ℕ → List ℕ → ℕ → ℕ → ℕ → Type 0
+Asked ns ps ds n i x = (IsForm ns n × (i < n) × (x < 16)) × ((ps ≡ sets-of ns n .plains) × (ds ≡ sets-of ns n .denieds))
+
+abbrev Given : ℕ → List ℕ → List ℕ → List ℕ → ℕ → ℕ → ℕ → Type 0
+Given t ns ps ds n i x = (i ≡ t) × Asked ns ps ds n i x
+
+module _ {t : ℕ} {ns ps ds : List ℕ} {n i x : ℕ} (g : Given t ns ps ds n i x) where
+  abbrev word : ℕ
+  word = getD ns i 0
+
+  -- A law of document 01's order at node i.
+  law : {P : List ℕ → ℕ → ℕ → ℕ → Type 0} → ((ns : List ℕ) (n i x : ℕ) → IsForm ns n → i < n → x < 16 → P ns n i x) → P ns n i x
+  law l = l ns n i x (g .1 .0 .0) (g .1 .0 .1) (g .1 .0 .2)
+
+  -- A call with a child is below the measure and given what it asks for.
+  to-child : {c y : ℕ} → sets.In c (children word) → y < 16 → (c < t) × Asked ns ps ds n c y
+  to-child {c} {y} m s =
+      let h : c < i = child-below (g .1 .0 .0) (g .1 .0 .1) m in
+      (omega (arith, g .0), ((g .1 .0 .0, omega (arith, g .1 .0 .1), s), g .1 .1))
+
+  to-not : kind word ≡ 3 → (left word < t) × Asked ns ps ds n (left word) x
+  to-not k = to-child (rw (children-not word k) (sets.here refl)) (g .1 .0 .2)
+
+  to-left : HasTwo word → (left word < t) × Asked ns ps ds n (left word) x
+  to-left k = to-child (left-child word k) (g .1 .0 .2)
+
+  to-right : HasTwo word → (right word < t) × Asked ns ps ds n (right word) x
+  to-right k = to-child (right-child word k) (g .1 .0 .2)
+
+  to-exists : kind word ≡ 6 → (under word < t) × Asked ns ps ds n (under word) x
+  to-exists k = to-child (rw (children-exists word k) (sets.here refl)) (g .1 .0 .2)
+
+  -- What a test of the code shows: of a node c, of node i, of its two children.
+  plain-shown : {r b : Bool} {c : ℕ} → c < n → r ≡ has 16 (getD ps c 0) x → r ≡ b → order.generates ns c x ≡ b
+  plain-shown {r} {b} {c} h = shown (plain-bits ns c) c x (g .1 .1 .0) (order.plains-at ns n c h)
+
+  denied-shown : {r b : Bool} {c : ℕ} → c < n → r ≡ has 16 (getD ds c 0) x → r ≡ b → order.generates-denied ns c x ≡ b
+  denied-shown {r} {b} {c} h = shown (denied-bits ns c) c x (g .1 .1 .1) (order.denieds-at ns n c h)
+
+  plain-self : {r b : Bool} → r ≡ has 16 (getD ps i 0) x → r ≡ b → order.generates ns i x ≡ b
+  plain-self = plain-shown (g .1 .0 .1)
+
+  denied-self : {r b : Bool} → r ≡ has 16 (getD ds i 0) x → r ≡ b → order.generates-denied ns i x ≡ b
+  denied-self = denied-shown (g .1 .0 .1)
+
+  plain-left : {r b : Bool} → HasTwo word → r ≡ has 16 (getD ps (left word) 0) x → r ≡ b → order.generates ns (left word) x ≡ b
+  plain-left k = plain-shown (to-left k .1 .0 .1)
+
+  plain-right : {r b : Bool} → HasTwo word → r ≡ has 16 (getD ps (right word) 0) x → r ≡ b → order.generates ns (right word) x ≡ b
+  plain-right k = plain-shown (to-right k .1 .0 .1)
+
+  denied-left : {r b : Bool} → HasTwo word → r ≡ has 16 (getD ds (left word) 0) x → r ≡ b → order.generates-denied ns (left word) x ≡ b
+  denied-left k = denied-shown (to-left k .1 .0 .1)
+
+-- ---- the measure
+
+abbrev μ-denied : Measures 1 denied-kinds.ps ℕ
+μ-denied κs a = a .1 .1 .1 .1 .0
+
+abbrev μ-plain : Measures 1 plain-kinds.ps ℕ
+μ-plain κs a = a .1 .1 .1 .1 .0
+
+-- What each is given at the measure t, and what a call of it asks below t.
+abbrev denied-at : ℕ → In 1 denied-kinds.ps
+denied-at t = and 1 denied-kinds.ps (is 1 denied-kinds.ps μ-denied t) denied.Pre
+
+abbrev denied-below : ℕ → In 1 denied-kinds.ps
+denied-below t = and 1 denied-kinds.ps (falls 1 denied-kinds.ps _<_ μ-denied t) denied.Pre
+
+abbrev plain-at : ℕ → In 1 plain-kinds.ps
+plain-at t = and 1 plain-kinds.ps (is 1 plain-kinds.ps μ-plain t) plain.Pre
+
+abbrev plain-below : ℕ → In 1 plain-kinds.ps
+plain-below t = and 1 plain-kinds.ps (falls 1 plain-kinds.ps _<_ μ-plain t) plain.Pre
+
+abbrev denied-claims : ℕ → denied-lts.Claims
+denied-claims t = (is-in-reads.Asked, is-in-reads.Learnt, plain-below t, plain.Post, denied-below t, denied.Post)
+
+abbrev plain-claims : ℕ → plain-lts.Claims
+plain-claims t =
+    (is-in-reads.Asked, is-in-reads.Learnt, denied-below t, denied.Post, plain-below t, plain.Post, other-reads.Asked, other-reads.Learnt, node-bit-reads.Asked, node-bit-reads.Learnt)
+
+-- ---- denied
+
+module _ (t : ℕ) where
+  -- Past the first test: where the function started, that node i generates x there, and that it is an or where the match names no other kind.
+  abbrev denied-start : denied-lts.Else1 (denied-claims t) (denied-at t) denied.Post → denied-lts.Start (denied-claims t) (denied-at t) denied.Post
+  denied-start c = c .before .before .before .before .before
+
+  denied-generates : (c : denied-lts.Else1 (denied-claims t) (denied-at t) denied.Post) → let a = denied-start c .args in order.generates-denied (a .nodes .now) (a .i) (a .x) ≡ true
+  denied-generates c = denied-self (denied-start c .pre) (c .before .is-in .ensures) (not-false (c .before .is-in .result) (c .if1 .left))
+
+  denied-or : (c : denied-lts.At-match-rest (denied-claims t) (denied-at t) denied.Post) → kind (word (denied-start (c .before) .pre)) ≡ 5
+  denied-or c = law (denied-start (c .before) .pre) order.denied-kind (denied-generates (c .before)) (c .match .rest .0 .1) (c .match .rest .1)
+
+  denied-mul-w : denied-lts.Need-mul-w (denied-claims t) (denied-at t) denied.Post
+  denied-mul-w c = search needs
+
+  denied-shared-slice-read-w : denied-lts.Need-shared-slice-read-w (denied-claims t) (denied-at t) denied.Post
+  denied-shared-slice-read-w c = search needs
+
+  denied-cast-left : denied-lts.Need-cast-left (denied-claims t) (denied-at t) denied.Post
+  denied-cast-left c = search needs
+
+  denied-cast-right : denied-lts.Need-cast-right (denied-claims t) (denied-at t) denied.Post
+  denied-cast-right c = search needs
+
+  denied-mul-is-in : denied-lts.Need-mul-is-in (denied-claims t) (denied-at t) denied.Post
+  denied-mul-is-in c = search needs
+
+  denied-element-copy-out-is-in : denied-lts.Need-element-copy-out-is-in (denied-claims t) (denied-at t) denied.Post
+  denied-element-copy-out-is-in c = search needs
+
+  denied-is-in-requires : denied-lts.Need-is-in-requires (denied-claims t) (denied-at t) denied.Post
+  denied-is-in-requires c κs = search needs
+
+  denied-returns : denied-lts.Need-returns (denied-claims t) (denied-at t) denied.Post
+  denied-returns c =
+      let g = c .before .before .before .before .before .pre in sym (law g order.denied-none (denied-self g (c .before .is-in .ensures) (not-true (c .before .is-in .result) (c .if1 .taken))))
+
+  denied-plain-requires : denied-lts.Need-plain-requires (denied-claims t) (denied-at t) denied.Post
+  denied-plain-requires c κs = to-not (denied-start (c .before) .pre) (c .match .keys1)
+
+  denied-denied-requires : denied-lts.Need-denied-requires (denied-claims t) (denied-at t) denied.Post
+  denied-denied-requires c κs = to-left (denied-start (c .before) .pre) (inl (c .match .keys2))
+
+  denied-denied-requires-2 : denied-lts.Need-denied-requires-2 (denied-claims t) (denied-at t) denied.Post
+  denied-denied-requires-2 c κs = to-right (denied-start (c .before .before) .pre) (inl (c .before .match .keys2))
+
+  denied-mul-is-in-2 : denied-lts.Need-mul-is-in-2 (denied-claims t) (denied-at t) denied.Post
+  denied-mul-is-in-2 c = search needs
+
+  denied-element-copy-out-is-in-2 : denied-lts.Need-element-copy-out-is-in-2 (denied-claims t) (denied-at t) denied.Post
+  denied-element-copy-out-is-in-2 c = search needs
+
+  denied-is-in-requires-2 : denied-lts.Need-is-in-requires-2 (denied-claims t) (denied-at t) denied.Post
+  denied-is-in-requires-2 c κs = search needs
+
+  denied-denied-requires-3 : denied-lts.Need-denied-requires-3 (denied-claims t) (denied-at t) denied.Post
+  denied-denied-requires-3 c κs = let at = c .before .before .before in to-left (denied-start (at .before) .pre) (inr (denied-or at))
+
+  denied-returns-2 : denied-lts.Need-returns-2 (denied-claims t) (denied-at t) denied.Post
+  denied-returns-2 c =
+      let at = c .before .before .before .before in let g = denied-start (at .before) .pre in
+      c .denied3 .ensures ∙ sym (law g order.denied-or-left (denied-or at) (denied-left g (inr (denied-or at)) (c .before .before .is-in2 .ensures) (c .before .if2 .taken)))
+
+  denied-denied-requires-4 : denied-lts.Need-denied-requires-4 (denied-claims t) (denied-at t) denied.Post
+  denied-denied-requires-4 c κs = let at = c .before .before .before in to-right (denied-start (at .before) .pre) (inr (denied-or at))
+
+  denied-returns-3 : denied-lts.Need-returns-3 (denied-claims t) (denied-at t) denied.Post
+  denied-returns-3 c = c .plain .ensures ∙ sym (law (denied-start (c .before .before) .pre) order.denied-not (c .before .match .keys1))
+
+  denied-returns-4 : denied-lts.Need-returns-4 (denied-claims t) (denied-at t) denied.Post
+  denied-returns-4 c =
+      let at = c .before .before in
+      rw (c .before .denied .ensures, c .denied2 .ensures) (sym (law (denied-start (at .before) .pre) order.denied-and (at .match .keys2) (denied-generates (at .before))))
+
+  denied-returns-5 : denied-lts.Need-returns-5 (denied-claims t) (denied-at t) denied.Post
+  denied-returns-5 c =
+      let at = c .before .before .before .before in let g = denied-start (at .before) .pre in
+      c .denied4 .ensures ∙ sym (law g order.denied-or-right (denied-or at) (denied-left g (inr (denied-or at)) (c .before .before .is-in2 .ensures) (c .before .if2 .left)))
+
+-- ---- plain
+
+module _ (t : ℕ) where
+  -- Past the first test: where the function started, and that node i generates x there.
+  abbrev plain-start : plain-lts.Else1 (plain-claims t) (plain-at t) plain.Post → plain-lts.Start (plain-claims t) (plain-at t) plain.Post
+  plain-start c = c .before .before .before .before .before
+
+  plain-generates : (c : plain-lts.Else1 (plain-claims t) (plain-at t) plain.Post) → let a = plain-start c .args in order.generates (a .nodes .now) (a .i) (a .x) ≡ true
+  plain-generates c = plain-self (plain-start c .pre) (c .before .is-in .ensures) (not-false (c .before .is-in .result) (c .if1 .left))
+
+  -- An and past the second test: its left child doesn't generate x.
+  plain-not-left : (c : plain-lts.Else2 (plain-claims t) (plain-at t) plain.Post) → let s = plain-start (c .before .before .before .before) in order.generates (s .args .nodes .now) (left (word (s .pre))) (s .args .x) ≡ false
+  plain-not-left c = let at = c .before .before .before in plain-left (plain-start (at .before) .pre) (inl (at .match .keys3)) (c .before .is-in2 .ensures) (c .if2 .left)
+
+  -- Past the third neither child does: the other side of the equality on the right is a variable, and the left child generates it.
+  abbrev plain-and : plain-lts.After-is-in3 (plain-claims t) (plain-at t) plain.Post → plain-lts.At-match-keys3 (plain-claims t) (plain-at t) plain.Post
+  plain-and c = c .before .before .before .before .before
+
+  plain-equated :
+      (c : plain-lts.Else3 (plain-claims t) (plain-at t) plain.Post) →
+      let s = plain-start (plain-and (c .before) .before) in
+      let y = other-side (getD (s .args .nodes .now) (right (word (s .pre))) 0) (s .args .x) in
+      (y < 16) × (plain-nodes (s .args .nodes .now) (s .args .i) (s .args .x) ≡ plain-nodes (s .args .nodes .now) (left (word (s .pre))) y)
+  plain-equated c =
+      let at = plain-and (c .before) in let g = plain-start (at .before) .pre in let k = at .match .keys3 in
+      law g order.nodes-and-equated k (plain-generates (at .before)) (plain-not-left (c .before .before .before)) (plain-right g (inl k) (c .before .is-in3 .ensures) (c .if3 .left))
+
+  plain-mul-w : plain-lts.Need-mul-w (plain-claims t) (plain-at t) plain.Post
+  plain-mul-w c = search needs
+
+  plain-shared-slice-read-w : plain-lts.Need-shared-slice-read-w (plain-claims t) (plain-at t) plain.Post
+  plain-shared-slice-read-w c = search needs
+
+  plain-cast-left : plain-lts.Need-cast-left (plain-claims t) (plain-at t) plain.Post
+  plain-cast-left c = search needs
+
+  plain-cast-right : plain-lts.Need-cast-right (plain-claims t) (plain-at t) plain.Post
+  plain-cast-right c = search needs
+
+  plain-cast-under : plain-lts.Need-cast-under (plain-claims t) (plain-at t) plain.Post
+  plain-cast-under c = search needs
+
+  plain-mul-is-in : plain-lts.Need-mul-is-in (plain-claims t) (plain-at t) plain.Post
+  plain-mul-is-in c = search needs
+
+  plain-element-copy-out-is-in : plain-lts.Need-element-copy-out-is-in (plain-claims t) (plain-at t) plain.Post
+  plain-element-copy-out-is-in c = search needs
+
+  plain-is-in-requires : plain-lts.Need-is-in-requires (plain-claims t) (plain-at t) plain.Post
+  plain-is-in-requires c κs = search needs
+
+  plain-returns : plain-lts.Need-returns (plain-claims t) (plain-at t) plain.Post
+  plain-returns c =
+      let g = c .before .before .before .before .before .pre in sym (law g order.nodes-none (plain-self g (c .before .is-in .ensures) (not-true (c .before .is-in .result) (c .if1 .taken))))
+
+  plain-denied-requires : plain-lts.Need-denied-requires (plain-claims t) (plain-at t) plain.Post
+  plain-denied-requires c κs = to-not (plain-start (c .before) .pre) (c .match .keys2)
+
+  plain-mul-is-in-2 : plain-lts.Need-mul-is-in-2 (plain-claims t) (plain-at t) plain.Post
+  plain-mul-is-in-2 c = search needs
+
+  plain-element-copy-out-is-in-2 : plain-lts.Need-element-copy-out-is-in-2 (plain-claims t) (plain-at t) plain.Post
+  plain-element-copy-out-is-in-2 c = search needs
+
+  plain-is-in-requires-2 : plain-lts.Need-is-in-requires-2 (plain-claims t) (plain-at t) plain.Post
+  plain-is-in-requires-2 c κs = search needs
+
+  plain-plain-requires : plain-lts.Need-plain-requires (plain-claims t) (plain-at t) plain.Post
+  plain-plain-requires c κs = let at = c .before .before .before in to-left (plain-start (at .before) .pre) (inl (at .match .keys3))
+
+  plain-returns-2 : plain-lts.Need-returns-2 (plain-claims t) (plain-at t) plain.Post
+  plain-returns-2 c =
+      let at = c .before .before .before .before in let g = plain-start (at .before) .pre in let k = at .match .keys3 in
+      c .plain .ensures ∙ sym (law g order.nodes-and-left k (plain-left g (inl k) (c .before .before .is-in2 .ensures) (c .before .if2 .taken)))
+
+  plain-mul-is-in-3 : plain-lts.Need-mul-is-in-3 (plain-claims t) (plain-at t) plain.Post
+  plain-mul-is-in-3 c = search needs
+
+  plain-element-copy-out-is-in-3 : plain-lts.Need-element-copy-out-is-in-3 (plain-claims t) (plain-at t) plain.Post
+  plain-element-copy-out-is-in-3 c = search needs
+
+  plain-is-in-requires-3 : plain-lts.Need-is-in-requires-3 (plain-claims t) (plain-at t) plain.Post
+  plain-is-in-requires-3 c κs = search needs
+
+  plain-plain-requires-2 : plain-lts.Need-plain-requires-2 (plain-claims t) (plain-at t) plain.Post
+  plain-plain-requires-2 c κs = let at = plain-and (c .before) in to-right (plain-start (at .before) .pre) (inl (at .match .keys3))
+
+  plain-returns-3 : plain-lts.Need-returns-3 (plain-claims t) (plain-at t) plain.Post
+  plain-returns-3 c =
+      let at = plain-and (c .before .before) in let g = plain-start (at .before) .pre in let k = at .match .keys3 in
+      c .plain2 .ensures ∙ sym (law g order.nodes-and-right k (plain-not-left (c .before .before .before .before)) (plain-right g (inl k) (c .before .before .is-in3 .ensures) (c .before .if3 .taken)))
+
+  plain-mul-other : plain-lts.Need-mul-other (plain-claims t) (plain-at t) plain.Post
+  plain-mul-other c = search needs
+
+  plain-shared-slice-read-other : plain-lts.Need-shared-slice-read-other (plain-claims t) (plain-at t) plain.Post
+  plain-shared-slice-read-other c = search needs
+
+  plain-other-requires : plain-lts.Need-other-requires (plain-claims t) (plain-at t) plain.Post
+  plain-other-requires c κs = search needs
+
+  plain-plain-requires-3 : plain-lts.Need-plain-requires-3 (plain-claims t) (plain-at t) plain.Post
+  plain-plain-requires-3 c κs =
+      let at = plain-and (c .before .before .before) in let g = plain-start (at .before) .pre in
+      to-child g (left-child (word g) (inl (at .match .keys3))) (subst (λ (y : ℕ). y < 16) (sym (c .other .ensures)) (plain-equated (c .before .before) .0))
+
+  plain-plain-requires-4 : plain-lts.Need-plain-requires-4 (plain-claims t) (plain-at t) plain.Post
+  plain-plain-requires-4 c κs = to-left (plain-start (c .before) .pre) (inr (c .match .keys4))
+
+  plain-plain-requires-5 : plain-lts.Need-plain-requires-5 (plain-claims t) (plain-at t) plain.Post
+  plain-plain-requires-5 c κs = to-right (plain-start (c .before .before) .pre) (inr (c .before .match .keys4))
+
+  plain-plain-requires-6 : plain-lts.Need-plain-requires-6 (plain-claims t) (plain-at t) plain.Post
+  plain-plain-requires-6 c κs = to-exists (plain-start (c .before) .pre) (c .match .keys5)
+
+  plain-node-bit-requires : plain-lts.Need-node-bit-requires (plain-claims t) (plain-at t) plain.Post
+  plain-node-bit-requires c κs = search needs
+
+  plain-returns-4 : plain-lts.Need-returns-4 (plain-claims t) (plain-at t) plain.Post
+  plain-returns-4 c = sym (law (plain-start (c .before) .pre) order.nodes-truth (c .match .keys1))
+
+  plain-returns-5 : plain-lts.Need-returns-5 (plain-claims t) (plain-at t) plain.Post
+  plain-returns-5 c = c .denied .ensures ∙ sym (law (plain-start (c .before .before) .pre) order.nodes-not (c .before .match .keys2))
+
+  plain-returns-6 : plain-lts.Need-returns-6 (plain-claims t) (plain-at t) plain.Post
+  plain-returns-6 c =
+      let else3 = c .before .before .before in let s = plain-start (plain-and (else3 .before) .before) in
+      c .plain3 .ensures ∙ ap (plain-nodes (s .args .nodes .now) (left (word (s .pre)))) (c .before .other .ensures) ∙ sym (plain-equated else3 .1)
+
+  plain-returns-7 : plain-lts.Need-returns-7 (plain-claims t) (plain-at t) plain.Post
+  plain-returns-7 c =
+      let at = c .before .before in
+      rw (c .before .plain4 .ensures, c .plain5 .ensures) (sym (law (plain-start (at .before) .pre) order.nodes-or (at .match .keys4) (plain-generates (at .before))))
+
+  plain-returns-8 : plain-lts.Need-returns-8 (plain-claims t) (plain-at t) plain.Post
+  plain-returns-8 c =
+      let at = c .before in
+      c .plain6 .ensures ∙ sym (law (plain-start (at .before) .pre) order.nodes-exists (at .match .keys5) (plain-generates (at .before)))
+
+  plain-returns-9 : plain-lts.Need-returns-9 (plain-claims t) (plain-at t) plain.Post
+  plain-returns-9 c =
+      let at = c .before in let g = plain-start (at .before) .pre in
+      c .node-bit .ensures ∙ sym (law g order.nodes-leaf (plain-generates (at .before)) (leaf-kind (kind (word g)) (omega (arith, at .match .rest)) (omega (arith, at .match .rest, law g order.kind-known))))
+
+pub +denied+plain-spec : {M : Type 1} → statement M
++denied+plain-spec =
+    close
+    μ-denied
+    μ-plain
+    (λ t. denied-lts.spec (denied-claims t)
+    (denied-at t)
+    denied.Post
+    (denied-mul-w t)
+    (denied-shared-slice-read-w t)
+    (denied-cast-left t)
+    (denied-cast-right t)
+    (denied-mul-is-in t)
+    (denied-element-copy-out-is-in t)
+    (denied-is-in-requires t)
+    (denied-returns t)
+    (denied-plain-requires t)
+    (denied-denied-requires t)
+    (denied-denied-requires-2 t)
+    (denied-mul-is-in-2 t)
+    (denied-element-copy-out-is-in-2 t)
+    (denied-is-in-requires-2 t)
+    (denied-denied-requires-3 t)
+    (denied-returns-2 t)
+    (denied-denied-requires-4 t)
+    (denied-returns-3 t)
+    (denied-returns-4 t)
+    (denied-returns-5 t))
+    (λ t. plain-lts.spec (plain-claims t)
+    (plain-at t)
+    plain.Post
+    (plain-mul-w t)
+    (plain-shared-slice-read-w t)
+    (plain-cast-left t)
+    (plain-cast-right t)
+    (plain-cast-under t)
+    (plain-mul-is-in t)
+    (plain-element-copy-out-is-in t)
+    (plain-is-in-requires t)
+    (plain-returns t)
+    (plain-denied-requires t)
+    (plain-mul-is-in-2 t)
+    (plain-element-copy-out-is-in-2 t)
+    (plain-is-in-requires-2 t)
+    (plain-plain-requires t)
+    (plain-returns-2 t)
+    (plain-mul-is-in-3 t)
+    (plain-element-copy-out-is-in-3 t)
+    (plain-is-in-requires-3 t)
+    (plain-plain-requires-2 t)
+    (plain-returns-3 t)
+    (plain-mul-other t)
+    (plain-shared-slice-read-other t)
+    (plain-other-requires t)
+    (plain-plain-requires-3 t)
+    (plain-plain-requires-4 t)
+    (plain-plain-requires-5 t)
+    (plain-plain-requires-6 t)
+    (plain-node-bit-requires t)
+    (plain-returns-4 t)
+    (plain-returns-5 t)
+    (plain-returns-6 t)
+    (plain-returns-7 t)
+    (plain-returns-8 t)
+    (plain-returns-9 t))

@@ -1,0 +1,38 @@
+-- Sets of numbers as one number, a bit for each, number 0 highest: document 01's 64-bit and 16-bit numbers. Definitions only; the laws are in Bits/Laws.antt.
+use Prim.Native.Nat.{ℕ, zero, suc, _+_, _*_, _-_, _^_}
+use mathlib.Core.Bool.{Bool, cond}
+use mathlib.Core.List.{List, [], _∷_}
+use lib.Bits.{bitAnd}
+use Rattle.calculus.specs.Sets.{member}
+use Rattle.query.specs.Nodes.{nonzero}
+use Rattle.query.specs.Reading.{max-nodes}
+pub mod Laws
+
+abbrev pub bit : Bool → ℕ
+bit b = cond b 1 0
+
+-- Of the numbers below k, those that pass the test.
+unfoldable pub bits : (ℕ → Bool) → ℕ → ℕ
+bits f zero = 0
+bits f (suc k) = bits f k * 2 + bit (f k)
+
+-- The members below k.
+abbrev pub mask : ℕ → List ℕ → ℕ
+mask k xs = bits (λ n. member n xs) k
+
+-- A set of nodes: 64 bits, node 0 highest.
+abbrev pub node-mask : List ℕ → ℕ
+node-mask xs = mask max-nodes xs
+
+-- A set of variables: 16 bits, variable 0 highest.
+abbrev pub variable-mask : List ℕ → ℕ
+variable-mask xs = mask 16 xs
+
+-- ---- how the code goes about it
+
+-- Whether x is in a set of numbers below k, and the set without it.
+abbrev pub has : ℕ → ℕ → ℕ → Bool
+has k set x = nonzero (bitAnd set (mask k (x ∷ [])))
+
+abbrev pub without : ℕ → ℕ → ℕ → ℕ
+without k set x = bitAnd set (2 ^ k - 1 - mask k (x ∷ []))

@@ -1,0 +1,4 @@
+pub mod Bits
+pub mod Form
+pub mod Generating
+pub mod Verdict

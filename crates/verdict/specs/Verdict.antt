@@ -1,0 +1,52 @@
+-- The verdict's reply: document 01, "From formula to verdict". Definitions only; the laws are in Verdict/Laws.antt.
+use Prim.Native.Nat.{ℕ}
+use mathlib.Core.Bool.{false}
+use mathlib.Core.List.{List, [], map}
+use Rattle.calculus.specs.Lists.{padded}
+use Rattle.calculus.specs.Generators.{Verdict as Findings, verdict, safe}
+use Rattle.causes.specs.declared.Answer.{Answer}
+use Rattle.causes.specs.declared.Answer.the-variants.{Done, Refused}
+use Rattle.query.specs.declared.Query.{Query}
+use Rattle.query.specs.Reading.{max-columns, read-of, formula, query-of, columns-of}
+use Rattle.verdict.specs.declared.Verdict.{Verdict}
+use Rattle.verdict.specs.Bits.{node-mask, variable-mask}
+use Rattle.verdict.specs.Form.{form-of}
+pub mod Laws
+pub mod Cases
+
+abbrev pub refusal : ℕ → ℕ → Verdict
+refusal n p =
+    record {
+      answer = Refused n p;
+      form = query-of [] [];
+      columns = columns-of [];
+      generators = padded max-columns 0 [];
+      ungenerated = 0;
+      unranged = 0;
+      safe = false;
+    }
+
+-- The calculus' verdict as numbers, beside the form whose nodes it names: the columns of the query as read, the generators of each as a 64-bit number, the
+-- columns that aren't generated as a 16-bit number, the exists nodes whose variable isn't as a 64-bit number, and whether it is safe-range.
+abbrev pub reported : Query → Findings → Verdict
+reported form v =
+    record {
+      answer = Done;
+      form = form;
+      columns = columns-of (v .columns-read);
+      generators = padded max-columns 0 (map node-mask (v .generators));
+      ungenerated = variable-mask (v .ungenerated);
+      unranged = node-mask (v .unranged);
+      safe = safe v;
+    }
+
+-- The verdict on an accepted query.
+abbrev pub judged : Query → Verdict
+judged q = reported (form-of q) (verdict (formula q))
+
+abbrev pub verdict-reply : Answer → Query → Verdict
+verdict-reply Done q = judged q
+verdict-reply (Refused n p) q = refusal n p
+
+abbrev pub verdict-of : List ℕ → List ℕ → Verdict
+verdict-of ws bs = verdict-reply (read-of ws bs .answer) (read-of ws bs .query)

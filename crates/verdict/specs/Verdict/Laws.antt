@@ -1,0 +1,165 @@
+-- What the verdict's reply says: its form is an accepted query of the propagated formula, the bits of its numbers are the generators and the reports of the
+-- calculus, and safe-range is 000's, widened as document 01 says.
+use Prim.Native.Nat.{ℕ, zero, suc, _-_, _≤_, _<_}
+use native.Mathlib.Omega.{arith}
+use mathlib.Core.Path.{_≡_, refl, sym, ap, subst, subst⁻¹, _∙_}
+use mathlib.Core.Logic.{_↔_}
+use mathlib.Core.Bool.{Bool, _&&_}
+use mathlib.Core.List.{List, [], _∷_, map, map-map}
+use lib.ListN.{length, getD, take, replicate, length-map}
+use lib.Seq.{take-append-seam}
+use lib.Dec.{eqb}
+use Rattle.calculus.specs.Sets.{In, member, union-of}
+use Rattle.calculus.specs.Sets.Laws.{reflects-member}
+use Rattle.calculus.specs.Lists.{padded}
+use Rattle.calculus.specs.Lists.Laws.{getD-padded}
+use Rattle.calculus.specs.Reflects.{Reflects, reflects-map}
+use Rattle.calculus.specs.Formula.{Fmla, fv, size, node, nodes}
+use Rattle.calculus.specs.Formula.Laws.{node-below}
+use Rattle.calculus.specs.Propagation.{cp}
+use Rattle.calculus.specs.Generation.{Generated}
+use Rattle.calculus.specs.Generators.{columns, plain, leaves, unranged-node, verdict, safe}
+use Rattle.calculus.specs.SafeRange.{SafeRange}
+use Rattle.calculus.specs.SafeRange.Answers.{columns-members, ungenerated-means, Unranged, unranged-means, safe-reflects}
+use Rattle.causes.specs.declared.Answer.the-variants.{Done, Refused}
+use Rattle.query.specs.declared.Query.{Query}
+use Rattle.query.specs.declared.Columns.{Columns}
+use Rattle.query.specs.Decoding.{formula-at}
+use Rattle.query.specs.Free.Laws.{fv-small}
+use Rattle.query.specs.Reading.{max-nodes, max-columns, read-of, nodes-in, pool, formula, columns-of}
+use Rattle.query.specs.Packing.{words}
+use Rattle.query.specs.Packing.Bytes.{Bytes, bytes-at}
+use Rattle.query.specs.Packing.Laws.{length-words}
+use Rattle.query.specs.Accepted.{Accepted}
+use Rattle.query.specs.Accepted.Laws.{read-accepted}
+use Rattle.verdict.specs.declared.Verdict.{Verdict}
+use Rattle.verdict.specs.Bits.{mask, node-mask, has}
+use Rattle.verdict.specs.Bits.Laws.{has-bits, mask-empty}
+use Rattle.verdict.specs.Form.{form-of}
+use Rattle.verdict.specs.Form.Laws.{form-accepted, form-count, form-formula, form-pool, form-is, form-root}
+use Rattle.verdict.specs.Generating.{variables-in, generated-bits, plain-bits, numbers-of, missing-from, unranged-in}
+use Rattle.verdict.specs.Generating.Reports.{numbers-right, unranged-right, missing-right}
+use Rattle.verdict.specs.Verdict.{refusal, judged, verdict-reply, verdict-of}
+
+-- ---- the reply, by the reader's answer
+
+module _ (ws bs : List ℕ) where
+  pub verdict-refused : (n p : ℕ) → read-of ws bs .answer ≡ Refused n p → verdict-of ws bs ≡ refusal n p
+  verdict-refused n p e = ap (λ a. verdict-reply a (read-of ws bs .query)) e
+
+  pub verdict-done : read-of ws bs .answer ≡ Done → verdict-of ws bs ≡ judged (read-of ws bs .query)
+  verdict-done e = ap (λ a. verdict-reply a (read-of ws bs .query)) e
+
+-- What a bit of a set says, where membership means P.
+bit-means : {P : Type 0} (k : ℕ) (xs : List ℕ) (n : ℕ) → n < k → In n xs ↔ P → Reflects P (has k (mask k xs) n)
+bit-means {P} k xs n h e = subst⁻¹ (Reflects P) (has-bits (λ m. member m xs) k n h) (reflects-map (e .0) (e .1) (reflects-member n xs))
+
+getD-mapped : {A : Type 0} (f : ℕ → A) (d : A) (xs : List ℕ) (c : ℕ) → c < length xs → getD (map f xs) c d ≡ f (getD xs c 0)
+getD-mapped f d [] c h = absurd (omega arith)
+getD-mapped f d (x ∷ xs) zero h = refl
+getD-mapped f d (x ∷ xs) (suc c) h = getD-mapped f d xs c (omega arith)
+
+-- The number of a column.
+number-at : (φ : Fmla) (c : ℕ) → c < length (columns φ) → getD (padded max-columns 0 (map node-mask (verdict φ .generators))) c 0 ≡ node-mask (leaves (plain (cp φ) 0 (getD (columns φ) c 0)))
+number-at φ c h =
+    let gs : List ℕ = map node-mask (verdict φ .generators) in
+    let e : gs ≡ map (λ x. node-mask (leaves (plain (cp φ) 0 x))) (columns φ) = map-map node-mask (λ x. leaves (plain (cp φ) 0 x)) (columns φ) in
+    let l : length gs ≡ length (columns φ) = ap length e ∙ length-map (columns φ) (λ x. node-mask (leaves (plain (cp φ) 0 x))) in
+    getD-padded max-columns 0 gs c (omega arith)
+    ∙ ap (λ m. getD m c 0) e
+    ∙ getD-mapped (λ x. node-mask (leaves (plain (cp φ) 0 x))) 0 (columns φ) c h
+
+-- ---- the numbers of nodes and variables are in range
+
+-- The free variables of a query are below 16.
+pub column-small : (q : Query) (x : ℕ) → In x (columns (formula q)) → x < 16
+column-small q x i = fv-small (nodes-in q) (length (nodes-in q) - 1) x (columns-members (formula q) x .0 i)
+
+ungenerated-small : (q : Query) (x : ℕ) → In x (verdict (formula q) .ungenerated) → x < 16
+ungenerated-small q x i = fv-small (nodes-in q) (length (nodes-in q) - 1) x (ungenerated-means (formula q) x .0 i .0)
+
+module _ (ws : List ℕ) (q : Query) (a : Accepted ws q) where
+  form-size : size (cp (formula q)) ≡ form-of q .«node_count»
+  form-size = sym (length-words (cp (formula q)) 0)
+
+  unranged-small : (k : ℕ) → In k (verdict (formula q) .unranged) → k < max-nodes
+  unranged-small k i = let s = unranged-means (formula q) k .0 i in omega (arith, node-below (cp (formula q)) (s .0) 0 k (s .1), form-size, form-accepted ws q a .few-nodes)
+
+  -- Safe-range exactly when both reports are zero.
+  pub judged-safe : judged q .safe ≡ (eqb (judged q .ungenerated) 0 && eqb (judged q .unranged) 0)
+  judged-safe = λ i. sym (mask-empty 16 (verdict (formula q) .ungenerated) (ungenerated-small q)) i && sym (mask-empty max-nodes (verdict (formula q) .unranged) unranged-small) i
+
+  -- ---- the numbers, bit by bit
+
+  -- The generators of a column: the leaf nodes of document 01's order in the form.
+  pub generator-bit : (c n : ℕ) → c < length (columns (formula q)) → n < max-nodes → has max-nodes (getD (judged q .generators) c 0) n ≡ member n (leaves (plain (cp (formula q)) 0 (getD (columns (formula q)) c 0)))
+  generator-bit c n h l = ap (λ m. has max-nodes m n) (number-at (formula q) c h) ∙ has-bits (λ k. member k (leaves (plain (cp (formula q)) 0 (getD (columns (formula q)) c 0)))) max-nodes n l
+
+  -- The free variables as read that aren't generated in the form.
+  pub ungenerated-bit : (x : ℕ) → x < 16 → Reflects (In x (fv (formula q)) × ¬ Generated x (cp (formula q))) (has 16 (judged q .ungenerated) x)
+  ungenerated-bit x h = bit-means 16 (verdict (formula q) .ungenerated) x h (ungenerated-means (formula q) x)
+
+  -- The exists nodes of the form whose variable isn't generated in their child.
+  pub unranged-bit : (k : ℕ) → k < max-nodes → Reflects ((χ : Fmla) × In (node k χ) (nodes (cp (formula q)) 0) × Unranged χ) (has max-nodes (judged q .unranged) k)
+  unranged-bit k h = bit-means max-nodes (verdict (formula q) .unranged) k h (unranged-means (formula q) k)
+
+  -- ---- what the parts of the code find is the verdict
+
+  form-spans : size (formula-at (form-of q .nodes) (form-of q .«node_count» - 1)) ≡ form-of q .«node_count»
+  form-spans = ap size (form-root ws q a) ∙ form-size
+
+  pub variables-read : variables-in (columns-of (columns (formula q))) ≡ columns (formula q)
+  variables-read = take-append-seam (columns (formula q)) (replicate (max-columns - length (columns (formula q))) 0)
+
+  numbers-found : numbers-of (form-of q .nodes) (form-of q .«node_count») (columns (formula q)) ≡ judged q .generators
+  numbers-found =
+      numbers-right (form-of q .nodes) (form-of q .«node_count») (columns (formula q)) (form-is ws q a) form-spans
+      ∙ ap (λ φ. padded max-columns 0 (map node-mask (map (λ x. leaves (plain φ 0 x)) (columns (formula q))))) (form-root ws q a)
+
+  missing-found : missing-from (plain-bits (form-of q .nodes) (form-of q .«node_count» - 1)) (columns (formula q)) ≡ judged q .ungenerated
+  missing-found =
+      ap (λ φ. missing-from (generated-bits (plain φ 0)) (columns (formula q))) (form-root ws q a)
+      ∙ missing-right (cp (formula q)) (columns (formula q)) (column-small q)
+
+  unranged-found : unranged-in (form-of q .nodes) (form-of q .«node_count») ≡ judged q .unranged
+  unranged-found =
+      unranged-right (form-of q .nodes) (form-of q .«node_count») (form-is ws q a) form-spans
+      ∙ ap (λ φ. node-mask (union-of unranged-node (nodes φ 0))) (form-root ws q a)
+
+abbrev pub reply : Query → Columns → List ℕ → ℕ → ℕ → Bool → Verdict
+reply f cs gs u w b = record { answer = Done; form = f; columns = cs; generators = gs; ungenerated = u; unranged = w; safe = b }
+
+-- From the form, the columns and what was found of them.
+pub assembled : (ws : List ℕ) (q : Query) → Accepted ws q → (f : Query) (cs : Columns) (gs : List ℕ) (u w : ℕ) (b : Bool) → f ≡ form-of q → cs ≡ columns-of (columns (formula q))
+    → gs ≡ numbers-of (f .nodes) (f .«node_count») (variables-in cs) → u ≡ missing-from (plain-bits (f .nodes) (f .«node_count» - 1)) (variables-in cs) → w ≡ unranged-in (f .nodes) (f .«node_count») → b ≡ (eqb u 0 && eqb w 0)
+    → reply f cs gs u w b ≡ judged q
+assembled ws q a f cs gs u w b e d eg eu ew eb =
+    let vs : variables-in cs ≡ columns (formula q) = ap variables-in d ∙ variables-read ws q a in
+    let g : gs ≡ judged q .generators = eg ∙ (λ i. numbers-of (e i .nodes) (e i .«node_count») (vs i)) ∙ numbers-found ws q a in
+    let m : u ≡ judged q .ungenerated = eu ∙ (λ i. missing-from (plain-bits (e i .nodes) (e i .«node_count» - 1)) (vs i)) ∙ missing-found ws q a in
+    let r : w ≡ judged q .unranged = ew ∙ (λ i. unranged-in (e i .nodes) (e i .«node_count»)) ∙ unranged-found ws q a in
+    let s : b ≡ judged q .safe = eb ∙ (λ i. eqb (m i) 0 && eqb (r i) 0) ∙ sym (judged-safe ws q a) in
+    λ i. reply (e i) (d i) (g i) (m i) (r i) (s i)
+
+-- ---- of the bytes
+
+-- The reply to accepted bytes: the query as read is accepted, and the verdict on it is `judged`.
+module _ (ws bs : List ℕ) (bytes : Bytes bs) (done : read-of ws bs .answer ≡ Done) where
+  pub query-accepted : Accepted ws (read-of ws bs .query)
+  query-accepted = read-accepted ws bs (bytes-at bs bytes) done
+
+  -- The form is itself an accepted query for the same widths, with the same constants and at most as many nodes, and stands for the propagated formula.
+  pub verdict-form : Accepted ws (verdict-of ws bs .form) × (formula (verdict-of ws bs .form) ≡ cp (formula (read-of ws bs .query))) × (pool (verdict-of ws bs .form) ≡ pool (read-of ws bs .query)) × (verdict-of ws bs .form .«node_count» ≤ read-of ws bs .query .«node_count»)
+  verdict-form =
+      let q = read-of ws bs .query in
+      subst⁻¹
+      (λ v. Accepted ws (v .form) × (formula (v .form) ≡ cp (formula q)) × (pool (v .form) ≡ pool q) × (v .form .«node_count» ≤ q .«node_count»))
+      (verdict-done ws bs done)
+      (form-accepted ws q query-accepted, form-formula ws q query-accepted, form-pool ws q query-accepted, form-count ws q query-accepted)
+
+  -- The verdict is safe-range of 000, widened as document 01 says, and it is that both reports are zero.
+  pub verdict-safe : Reflects (SafeRange (formula (read-of ws bs .query))) (verdict-of ws bs .safe)
+  verdict-safe = subst⁻¹ (λ v. Reflects (SafeRange (formula (read-of ws bs .query))) (v .safe)) (verdict-done ws bs done) (safe-reflects (formula (read-of ws bs .query)))
+
+  pub verdict-safe-zero : verdict-of ws bs .safe ≡ (eqb (verdict-of ws bs .ungenerated) 0 && eqb (verdict-of ws bs .unranged) 0)
+  verdict-safe-zero = subst⁻¹ (λ v. v .safe ≡ (eqb (v .ungenerated) 0 && eqb (v .unranged) 0)) (verdict-done ws bs done) (judged-safe ws (read-of ws bs .query) query-accepted)

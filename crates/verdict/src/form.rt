@@ -1,0 +1,178 @@
+// The constant-propagated form of an accepted query (000, 2.3), packed anew: left subtree, right subtree, parent.
+//
+// The words of the form stand at the front of an array, with zeros after them. A subtree is written after the words that are there; what propagation then
+// drops is set to zero again.
+use query::NODES;
+use query::Query;
+use query::free;
+ghost use mathlib.Core.Path.{_≡_};
+ghost use mathlib.Core.List.{[], _∷_, _++_};
+ghost use Prim.Native.Nat.{_+_, _≤_, _<_};
+ghost use lib.ListN.{take};
+ghost use Rattle.calculus.specs.Lists.{padded};
+ghost use Rattle.calculus.specs.Formula.{size};
+ghost use Rattle.calculus.specs.Propagation.{cp};
+ghost use Rattle.query.specs.Decoding.{formula-at};
+ghost use Rattle.query.specs.Reading.{max-nodes};
+ghost use Rattle.query.specs.Packing.{words};
+ghost use Rattle.verdict.specs.Form.{written, settled, negated, joined, unit-word, quantified, form-of, InQuery, IsAccepted};
+
+// The word of the truth value true; that of false is 0.
+const TRUE: u32 = 268435456;
+
+// One word more.
+fn push(out: &mut [u32; NODES], at: usize, w: u32) -> usize
+    requires { ⌜ (at < max-nodes) × (now out ≡ padded max-nodes 0 (take at (now out))) ⌝ }
+    ensures { λ r. ⌜ (r, now (out .exit)) ≡ written (take at (now (out .entry)) ++ (w ∷ [])) ⌝ }
+{
+    out[at] = w;
+    at + 1
+}
+
+// The words from `at` on are dropped.
+fn cut(out: &mut [u32; NODES], at: usize, end: usize)
+    requires { ⌜ (at ≤ end) × (end ≤ max-nodes) × (now out ≡ padded max-nodes 0 (take end (now out))) ⌝ }
+    ensures { λ _. ⌜ now (out .exit) ≡ padded max-nodes 0 (take at (now (out .entry))) ⌝ }
+{
+    let mut i = end;
+    while at < i {
+        i -= 1;
+        out[i] = 0;
+    }
+}
+
+// The word of an equality: of a variable with itself it is true.
+fn equality(w: u32) -> u32
+    ensures { λ r. ⌜ r ≡ settled w ⌝ }
+{
+    if w / 33554432 % 16 == w / 1048576 % 32 {
+        return TRUE;
+    }
+    w
+}
+
+// A not over the last subtree: a truth value is turned over.
+fn negate(out: &mut [u32; NODES], end: usize) -> usize
+    requires { ⌜ (1 ≤ end) × (end < max-nodes) × (now out ≡ padded max-nodes 0 (take end (now out))) ⌝ }
+    ensures { λ r. ⌜ (r, now (out .exit)) ≡ written (negated (take end (now (out .entry)))) ⌝ }
+{
+    // As a slice: that gives the proof the length.
+    let all: &[u32] = out;
+    let last = all[end - 1];
+    if last == 0 {
+        out[end - 1] = TRUE;
+        return end;
+    }
+    if last == TRUE {
+        out[end - 1] = 0;
+        return end;
+    }
+    push(out, end, 1610612736 + (end as u32 - 1) * 8388608)
+}
+
+// An and (kind 4) or an or (kind 5) over the last two subtrees, the first of them no truth value. It starts at `at`, and the second at `middle`.
+fn join(kind: u32, out: &mut [u32; NODES], at: usize, middle: usize, end: usize) -> usize
+    requires { ⌜ (4 ≤ kind) × (kind ≤ 5) × (at < middle) × (middle < end) × (end < max-nodes) ⌝ }
+    requires { ⌜ now out ≡ padded max-nodes 0 (take end (now out)) ⌝ }
+    ensures { λ r. ⌜ (r, now (out .exit)) ≡ written (joined kind at middle (take end (now (out .entry)))) ⌝ }
+{
+    // As a slice: that gives the proof the length.
+    let all: &[u32] = out;
+    let last = all[end - 1];
+    if last / 536870912 != 0 {
+        return push(
+            out,
+            end,
+            kind * 536870912 + (middle as u32 - 1) * 8388608 + (end as u32 - 1) * 131072,
+        );
+    }
+    if last == unit(kind) {
+        cut(out, middle, end);
+        return middle;
+    }
+    cut(out, at, end);
+    push(out, at, last)
+}
+
+// The truth value that an and (kind 4) or an or (kind 5) drops.
+fn unit(kind: u32) -> u32
+    ensures { λ r. ⌜ r ≡ unit-word kind ⌝ }
+{
+    if kind == 4 {
+        return TRUE;
+    }
+    0
+}
+
+// An exists over the last subtree: kept where its variable is free there.
+fn quantify(out: &mut [u32; NODES], end: usize, x: u32) -> usize
+    requires { ⌜ (1 ≤ end) × (end < max-nodes) × (x < 16) × (now out ≡ padded max-nodes 0 (take end (now out))) ⌝ }
+    ensures { λ r. ⌜ (r, now (out .exit)) ≡ written (quantified x (take end (now (out .entry)))) ⌝ }
+{
+    if free::is_free(out, end, x) {
+        return push(
+            out,
+            end,
+            3221225472 + x * 33554432 + (end as u32 - 1) * 524288,
+        );
+    }
+    end
+}
+
+// The form of node i, written from `at` on; the end of it.
+fn propagate<'a>(nodes: &'a [u32; NODES], i: usize, out: &mut [u32; NODES], at: usize) -> usize
+    requires { ⌜ InQuery (now nodes) i × (at + size (formula-at (now nodes) i) ≤ max-nodes) ⌝ }
+    requires { ⌜ now out ≡ padded max-nodes 0 (take at (now out)) ⌝ }
+    ensures { λ r. ⌜ (r, now (out .exit)) ≡ written (take at (now (out .entry)) ++ words (cp (formula-at (now (nodes .entry)) i)) at) ⌝ }
+{
+    // As a slice: that gives the proof the length.
+    let all: &[u32] = nodes;
+    let w = all[i];
+    let kind = w / 536870912;
+    let left = (w / 8388608 % 64) as usize;
+    let right = (w / 131072 % 64) as usize;
+    let under = (w / 524288 % 64) as usize;
+    match kind {
+        2 => push(out, at, equality(w)),
+        3 => {
+            let end = propagate(nodes, left, out, at);
+            negate(out, end)
+        }
+        4 | 5 => {
+            let middle = propagate(nodes, left, out, at);
+            let first = out[middle - 1];
+            if first / 536870912 == 0 {
+                if first != unit(kind) {
+                    return middle;
+                }
+                out[at] = 0;
+                return propagate(nodes, right, out, at);
+            }
+            let end = propagate(nodes, right, out, middle);
+            join(kind, out, at, middle, end)
+        }
+        6 => {
+            let end = propagate(nodes, under, out, at);
+            quantify(out, end, w / 33554432 % 16)
+        }
+        _ => push(out, at, w),
+    }
+}
+
+// The propagated form of an accepted query.
+pub fn form_of(query: Query) -> Query
+    requires { ⌜ IsAccepted query ⌝ }
+    ensures { λ r. ⌜ r ≡ form-of query ⌝ }
+{
+    let nodes = query.nodes;
+    let n = query.node_count;
+    let mut out = [0u32; NODES];
+    let end = propagate(&nodes, n - 1, &mut out, 0);
+    let constants = query.constants;
+    Query {
+        constants,
+        constant_count: query.constant_count,
+        nodes: out,
+        node_count: end,
+    }
+}

@@ -1,0 +1,87 @@
+// The verdict on a packed query: its propagated form, the generators of its columns, and whether it is safe-range.
+//
+// A query's way: read (the crate `query`), propagated into its form (`form`), then the form's nodes judged from the leaves: which variables each of them
+// generates, plainly and as denied (`generate`), and from which leaf nodes (`source`). The reports are sets of nodes and variables as numbers (`bits`).
+mod bits;
+pub mod form;
+mod generate;
+mod report;
+mod source;
+
+use causes::Answer;
+use causes::RELATIONS;
+use query::COLUMNS;
+use query::CONSTANTS;
+use query::Columns;
+use query::NODES;
+use query::Query;
+ghost use mathlib.Core.Path.{_≡_};
+ghost use Rattle.verdict.specs.Verdict.{verdict-of, refusal};
+
+// What the verdict answers. Generators are numbers of nodes of the form, node 0 the highest of 64 bits; `ungenerated` has variable 0 as the highest of 16,
+// `unranged` node 0 of the form as the highest of 64. A refusal comes with nothing else.
+pub struct Verdict {
+    pub answer: Answer,
+    pub form: Query,
+    pub columns: Columns,
+    pub generators: [u64; COLUMNS],
+    pub ungenerated: u16,
+    pub unranged: u64,
+    pub safe: bool,
+}
+
+// The reply of a refusal.
+fn refused(number: u8, place: u8) -> Verdict
+    ensures { λ v. ⌜ v ≡ refusal number place ⌝ }
+{
+    let form = Query {
+        constants: [0u32; CONSTANTS],
+        constant_count: 0,
+        nodes: [0u32; NODES],
+        node_count: 0,
+    };
+    let columns = Columns {
+        variables: [0u8; COLUMNS],
+        count: 0,
+    };
+    Verdict {
+        answer: Answer::Refused(number, place),
+        form,
+        columns,
+        generators: [0u64; COLUMNS],
+        ungenerated: 0,
+        unranged: 0,
+        safe: false,
+    }
+}
+
+// The verdict on the query that the bytes hold, for relations of these widths: causes 1 and 3 to 10.
+pub fn judge(bytes: &[u8], widths: [u8; RELATIONS]) -> Verdict
+    ensures { λ v. ⌜ v ≡ verdict-of widths (now (bytes .entry)) ⌝ }
+{
+    let reading = query::read(bytes, widths);
+    let answer = reading.answer;
+    if let Answer::Refused(number, place) = answer {
+        return refused(number, place);
+    }
+    let read = reading.query;
+    let form = form::form_of(read);
+    let nodes = form.nodes;
+    let n = form.node_count;
+    let sets = generate::generated(&nodes, n);
+    let plains = sets.plains;
+    let denieds = sets.denieds;
+    let columns = reading.columns;
+    let generators = report::generators(&nodes, &plains, &denieds, n, columns);
+    let ungenerated = report::ungenerated(plains[n - 1], columns);
+    let unranged = report::unranged(&nodes, &plains, n);
+    Verdict {
+        answer: Answer::Done,
+        form,
+        columns,
+        generators,
+        ungenerated,
+        unranged,
+        safe: ungenerated == 0 && unranged == 0,
+    }
+}
