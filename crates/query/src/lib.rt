@@ -11,7 +11,8 @@ mod unpack;
 use causes::Answer;
 use causes::RELATIONS;
 ghost use mathlib.Core.Path.{_≡_};
-ghost use Rattle.query.specs.Reading.{read-of, refusal};
+ghost use mathlib.Core.List.{[]};
+ghost use Rattle.query.specs.Reading.{query-of, columns-of, read-of, refusal};
 
 // The limits of a query: its nodes, constants and columns. Variables are numbered from 0.
 pub const NODES: usize = 64;
@@ -43,20 +44,33 @@ pub struct Reading {
     pub columns: Columns,
 }
 
-// The reply of a refusal.
-fn refused(number: u8, place: u8) -> Reading
-    ensures { λ r. ⌜ r ≡ refusal number place ⌝ }
+// No query and no columns: what a refusal comes with.
+pub fn no_query() -> Query
+    ensures { λ q. ⌜ q ≡ query-of [] [] ⌝ }
 {
-    let query = Query {
+    Query {
         constants: [0u32; CONSTANTS],
         constant_count: 0,
         nodes: [0u32; NODES],
         node_count: 0,
-    };
-    let columns = Columns {
+    }
+}
+
+pub fn no_columns() -> Columns
+    ensures { λ c. ⌜ c ≡ columns-of [] ⌝ }
+{
+    Columns {
         variables: [0u8; COLUMNS],
         count: 0,
-    };
+    }
+}
+
+// The reply of a refusal.
+fn refused(number: u8, place: u8) -> Reading
+    ensures { λ r. ⌜ r ≡ refusal number place ⌝ }
+{
+    let query = no_query();
+    let columns = no_columns();
     Reading {
         answer: Answer::Refused(number, place),
         query,

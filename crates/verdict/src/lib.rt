@@ -11,9 +11,7 @@ mod source;
 use causes::Answer;
 use causes::RELATIONS;
 use query::COLUMNS;
-use query::CONSTANTS;
 use query::Columns;
-use query::NODES;
 use query::Query;
 ghost use mathlib.Core.Path.{_≡_};
 ghost use Rattle.verdict.specs.Verdict.{verdict-of, refusal};
@@ -34,16 +32,8 @@ pub struct Verdict {
 fn refused(number: u8, place: u8) -> Verdict
     ensures { λ v. ⌜ v ≡ refusal number place ⌝ }
 {
-    let form = Query {
-        constants: [0u32; CONSTANTS],
-        constant_count: 0,
-        nodes: [0u32; NODES],
-        node_count: 0,
-    };
-    let columns = Columns {
-        variables: [0u8; COLUMNS],
-        count: 0,
-    };
+    let form = query::no_query();
+    let columns = query::no_columns();
     Verdict {
         answer: Answer::Refused(number, place),
         form,

@@ -64,6 +64,19 @@ select-all {A} p (x ∷ xs) h = go (p x) (h x (here refl)) (select-all p xs (λ 
     go true t e = ap (λ ys. x ∷ ys) e
     go false t e = absurd t
 
+-- Two tests that agree on the members.
+pub select-same : {A : Type 0} (p q : A → Bool) (xs : List A) → ((x : A) → In x xs → p x ≡ q x) → select p xs ≡ select q xs
+select-same p q [] h = refl
+select-same p q (x ∷ xs) h = λ j. cond (h x (here refl) j) (x ∷ select-same p q xs (λ y i. h y (there i)) j) (select-same p q xs (λ y i. h y (there i)) j)
+
+pub select-append : {A : Type 0} (p : A → Bool) (xs ys : List A) → select p (xs ++ ys) ≡ select p xs ++ select p ys
+select-append p [] ys = refl
+select-append {A} p (x ∷ xs) ys = go (p x) (select-append p xs ys)
+  where
+    go : (b : Bool) → select p (xs ++ ys) ≡ select p xs ++ select p ys → cond b (x ∷ select p (xs ++ ys)) (select p (xs ++ ys)) ≡ cond b (x ∷ select p xs) (select p xs) ++ select p ys
+    go true e = ap (λ l. x ∷ l) e
+    go false e = e
+
 -- ---- the parts of a test
 
 pub or-fails : (a b : Bool) → a || b ≡ false → (a ≡ false) × (b ≡ false)
@@ -96,6 +109,13 @@ module _ {A : Type 0} where
   pub place-of : (d : A) {x : A} (xs : List A) → In x xs → (i : ℕ) × (i < length xs) × (x ≡ getD xs i d)
   place-of d (y ∷ xs) (here e) = (0, omega arith, e)
   place-of d (y ∷ xs) (there i) = let r = place-of d xs i in (suc (r .0), suc-le-suc (r .1), r .2)
+
+  -- The element at a place below n is one of the first n.
+  pub in-take : (d : A) (xs : List A) (n c : ℕ) → c < n → c < length xs → In (getD xs c d) (take n xs)
+  in-take d [] n c h l = absurd (omega arith)
+  in-take d (x ∷ xs) zero c h l = absurd (omega arith)
+  in-take d (x ∷ xs) (suc n) zero h l = here refl
+  in-take d (x ∷ xs) (suc n) (suc c) h l = there (in-take d xs n c (omega arith) (omega arith))
 
 -- ---- a list that is filled from the front, and one that is known by its elements
 

@@ -23,10 +23,10 @@ use Rattle.query.specs.declared.Query.{Query}
 use Rattle.query.specs.Nodes.{kind, variable, equal-term, malformed, mismatched}
 use Rattle.query.specs.Decoding.{term-of, node-formula, formula-in, formulas, formula-at, root}
 use Rattle.query.specs.Decoding.Laws.{Kind, is-truth as truth-kind, is-record, is-equality, is-not, is-and, is-or, is-exists, is-none, kind-of, formula-here}
-use Rattle.query.specs.Reading.{max-nodes, max-constants, pool, formula}
-use Rattle.query.specs.Packing.{term-code, words, Fits, truth-fits, neg-fits, conj-fits, disj-fits, exists-fits, Packable}
+use Rattle.query.specs.Reading.{max-nodes, max-constants, read-of, pool, formula}
+use Rattle.query.specs.Packing.{term-code, words, pack, Fits, truth-fits, neg-fits, conj-fits, disj-fits, exists-fits, Packable}
 use Rattle.query.specs.Packing.Trees.{Tree, tree-decodes, tree-sound}
-use Rattle.query.specs.Packing.Laws.{size-positive, length-words, words-tree, root-words}
+use Rattle.query.specs.Packing.Laws.{size-positive, length-words, words-tree, root-words, read-pack}
 use Rattle.query.specs.Accepted.{Accepted}
 use Rattle.query.specs.Accepted.Laws.{pool-of, nodes-of-query, node-at, packed-accepted, formula-last, nodes-length-is}
 use Rattle.query.specs.Accepted.Order.{nonzero-false, truth-again, record-again, equality-again, record-width}
@@ -228,6 +228,10 @@ module _ (ws : List ℕ) (q : Query) (a : Accepted ws q) where
 
   pub form-accepted : Accepted ws (form-of q)
   form-accepted = packed-accepted ws (pool q) (cp (formula q)) (a .widths-right) form-packable
+
+  -- It is what the reader makes of the packing of the propagated formula.
+  pub form-packed : read-of ws (pack (pool q) (cp (formula q))) .query ≡ form-of q
+  form-packed = ap (λ r. r .query) (read-pack ws (pool q) (cp (formula q)) (a .widths-right) form-packable .0)
 
   pub form-count : form-of q .«node_count» ≤ q .«node_count»
   form-count = omega (arith, length-words (cp (formula q)) 0, size-cp (formula q), a .size-is)

@@ -4,21 +4,22 @@ use Prim.Native.Nat.{ℕ, zero, suc, _-_, _≤_, _<_}
 use native.Mathlib.Omega.{arith}
 use mathlib.Core.Path.{_≡_, refl, sym, ap, subst, subst⁻¹, _∙_}
 use mathlib.Core.Logic.{_↔_}
-use mathlib.Core.Bool.{Bool, _&&_}
+use mathlib.Core.Bool.{Bool, true, _&&_}
 use mathlib.Core.List.{List, [], _∷_, map, map-map}
 use lib.ListN.{length, getD, take, replicate, length-map}
 use lib.Seq.{take-append-seam}
-use lib.Dec.{eqb}
+use lib.Dec.{T, eqb}
 use Rattle.calculus.specs.Sets.{In, member, union-of}
-use Rattle.calculus.specs.Sets.Laws.{reflects-member}
+use Rattle.calculus.specs.Sets.Laws.{in-nil, reflects-member}
 use Rattle.calculus.specs.Lists.{padded}
 use Rattle.calculus.specs.Lists.Laws.{getD-padded}
-use Rattle.calculus.specs.Reflects.{Reflects, reflects-map}
+use Rattle.calculus.specs.Reflects.{Reflects, reflected, reflects-map}
 use Rattle.calculus.specs.Formula.{Fmla, fv, size, node, nodes}
 use Rattle.calculus.specs.Formula.Laws.{node-below}
 use Rattle.calculus.specs.Propagation.{cp}
-use Rattle.calculus.specs.Generation.{Generated}
-use Rattle.calculus.specs.Generators.{columns, plain, leaves, unranged-node, verdict, safe}
+use Rattle.calculus.specs.Generation.{Ap, Generated}
+use Rattle.calculus.specs.Generators.{Leaves, Answered, generated-by, not-generated, AtNode, columns, plain, leaves, unranged-node, verdict, safe}
+use Rattle.calculus.specs.Generators.Laws.{plain-answered, leaf-atom}
 use Rattle.calculus.specs.SafeRange.{SafeRange}
 use Rattle.calculus.specs.SafeRange.Answers.{columns-members, ungenerated-means, Unranged, unranged-means, safe-reflects}
 use Rattle.causes.specs.declared.Answer.the-variants.{Done, Refused}
@@ -59,6 +60,11 @@ getD-mapped f d [] c h = absurd (omega arith)
 getD-mapped f d (x ∷ xs) zero h = refl
 getD-mapped f d (x ∷ xs) (suc c) h = getD-mapped f d xs c (omega arith)
 
+-- A leaf of an answer is an atom of the formula.
+leaf-of : {x n : ℕ} {φ : Fmla} {a : Leaves} → Answered x φ n a → (p : ℕ) → In p (leaves a) → AtNode Ap φ n p
+leaf-of (generated-by G g) p i = leaf-atom g p i
+leaf-of (not-generated g) p i = absurd (in-nil i)
+
 -- The number of a column.
 number-at : (φ : Fmla) (c : ℕ) → c < length (columns φ) → getD (padded max-columns 0 (map node-mask (verdict φ .generators))) c 0 ≡ node-mask (leaves (plain (cp φ) 0 (getD (columns φ) c 0)))
 number-at φ c h =
@@ -94,6 +100,12 @@ module _ (ws : List ℕ) (q : Query) (a : Accepted ws q) where
   -- The generators of a column: the leaf nodes of document 01's order in the form.
   pub generator-bit : (c n : ℕ) → c < length (columns (formula q)) → n < max-nodes → has max-nodes (getD (judged q .generators) c 0) n ≡ member n (leaves (plain (cp (formula q)) 0 (getD (columns (formula q)) c 0)))
   generator-bit c n h l = ap (λ m. has max-nodes m n) (number-at (formula q) c h) ∙ has-bits (λ k. member k (leaves (plain (cp (formula q)) 0 (getD (columns (formula q)) c 0)))) max-nodes n l
+
+  -- Each of them is a record of the form, or an equality of a variable with a constant.
+  pub generator-atom : (c n : ℕ) → c < length (columns (formula q)) → n < max-nodes → has max-nodes (getD (judged q .generators) c 0) n ≡ true → AtNode Ap (cp (formula q)) 0 n
+  generator-atom c n h l e =
+      let x : ℕ = getD (columns (formula q)) c 0 in
+      leaf-of (plain-answered (cp (formula q)) 0 x) n (reflected (reflects-member n (leaves (plain (cp (formula q)) 0 x))) (subst⁻¹ T (sym (generator-bit c n h l) ∙ e) tt))
 
   -- The free variables as read that aren't generated in the form.
   pub ungenerated-bit : (x : ℕ) → x < 16 → Reflects (In x (fv (formula q)) × ¬ Generated x (cp (formula q))) (has 16 (judged q .ungenerated) x)

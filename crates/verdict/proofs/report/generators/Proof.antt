@@ -8,7 +8,8 @@ use denote.Ref.{now}
 use lib.ListN.{length, getD, take, drop, replicate, length-set}
 use Rattle.calculus.specs.Lists.{tabulate, padded}
 use Rattle.verdict.specs.Generating.{plain-nodes}
-use Rattle.verdict.specs.Generating.Reports.{in-take, numbers-more, numbers-all}
+use Rattle.calculus.specs.Lists.Laws.{in-take}
+use Rattle.verdict.specs.Generating.Reports.{numbers-more, numbers-all}
 use Rattle.verdict.proofs.report.generators.Statement.{statement}
 use Rattle.verdict.proofs.report.generators.Tie as tie
 
@@ -36,7 +37,7 @@ plain-requires c κs =
     let t = c .before .before .before .before in
     let s = t .args in
     let l = c .before .before .loop in
-    let column = in-take (s .columns .variables) (s .columns .count) (l .c) (omega arith) (omega (arith, l .inv .1)) in (
+    let column = in-take 0 (s .columns .variables) (s .columns .count) (l .c) (omega arith) (omega (arith, l .inv .1)) in (
       (t .pre .0 .0, omega (arith, t .pre .0 .0 .some-node), subst⁻¹ (λ x. x < 16) (c .wide .ensures) (t .pre .1 .1 (getD (s .columns .variables) (l .c) 0) column)),
       (t .pre .0 .1, t .pre .0 .2),
     )

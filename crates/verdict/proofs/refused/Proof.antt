@@ -1,0 +1,29 @@
+-- `verdict::refused` meets its contract: the number and place as they are, with no form, no columns and zeros.
+use borrow.Author.Needs.{needs}
+use mathlib.Core.Bool.{false}
+use lib.ListN.{replicate}
+use Rattle.causes.specs.declared.Answer.the-variants.{Refused}
+use Rattle.verdict.proofs.refused.Statement.{statement}
+use Rattle.verdict.proofs.refused.Tie as tie
+
+no-query-requires : tie.Need-no-query-requires
+no-query-requires c κs = search needs
+
+no-columns-requires : tie.Need-no-columns-requires
+no-columns-requires c κs = search needs
+
+returns : tie.Need-returns
+returns c =
+    let s = c .before .before .args in
+    λ i. record {
+      answer = Refused (s .number) (s .place);
+      form = c .before .no-query .ensures i;
+      columns = c .no-columns .ensures i;
+      generators = replicate 4 0;
+      ungenerated = 0;
+      unranged = 0;
+      safe = false;
+    }
+
+pub refused-spec : {M : Type 1} → statement M
+refused-spec = tie.close (tie.spec no-query-requires no-columns-requires returns)
