@@ -4,7 +4,8 @@ That of the verdict is in verdicts.py.
 
 trials.py             compares crates/trials/stdin and crates/trials/stdout with what this account gives; exit status 1 where they differ
 trials.py --write     writes both files
-trials.py --random N  runs the built program on N batches of random queries, verdicts and stores, and compares; exit status 1 where they differ
+trials.py --random N  runs the built program on N batches of random queries, verdicts and stores, and on the verdicts of all formulas of at most five nodes over
+                      seven leaves, and compares; exit status 1 where they differ
 """
 import pathlib
 import random
@@ -637,31 +638,61 @@ def stored_cases():
     store_cases()
     fill_cases()
     random_verdict_cases(random.Random(20261115), 40)
-    room = 65000 - sum(len(c[0]) for c in CASES)
+    room = ROOM - sum(len(c[0]) for c in CASES)
     random_query_cases(random.Random(20261115), room // 75)
 
 
 HERE = pathlib.Path(__file__).resolve().parent.parent
 
 
+def small_trees(size):
+    """Every formula of so many nodes over seven leaves, not, and, or, and exists of x and of y."""
+    leaves = [TRUE, FALSE, R1, record(1, 1), equality(0, 1), equality(0, 16), equality(0, 0)]
+    trees = {1: [(w,) for w in leaves]}
+    for n in range(2, size + 1):
+        trees[n] = [(w, t) for w in (3 << 29, 6 << 29, 6 << 29 | 1 << 25) for t in trees[n - 1]]
+        trees[n] += [(w, left, right) for w in (4 << 29, 5 << 29) for k in range(1, n - 1) for left in trees[k] for right in trees[n - 1 - k]]
+    return trees[size]
+
+
+def small_verdict_cases(size):
+    first = random.Random(0)
+    for i, t in enumerate(small_trees(size)):
+        verdict_case(f"n{size}.{i}", words_bytes(random_order(first, t), [7]))
+
+
+ROOM = 65000  # bytes of cases that the program takes at once
+
+
+def compare(seed):
+    """The built program against this account, on the cases at hand; how many differ."""
+    differ, at = 0, 0
+    while at < len(CASES):
+        end, size = at, 0
+        while end < len(CASES) and size + len(CASES[end][0]) < ROOM:
+            size += len(CASES[end][0])
+            end += 1
+        batch, at = CASES[at:end], end
+        given = b"".join(c[0] for c in batch)
+        got = subprocess.run([HERE / "target" / "bin" / "trials"], input=given, stdout=subprocess.PIPE, check=True).stdout.decode()
+        for line, (_, wanted) in zip(got.split("\n") + [""] * len(batch), batch):
+            if line != wanted:
+                differ += 1
+                print(f"trials: {seed}: {line!r}, and not {wanted!r}")
+    return differ
+
+
 def compare_random(batches):
-    """The built program against this account, on batches that fit its room of 65,536 bytes."""
+    kinds = [(random_query_cases, 400), (random_store_cases, 40), (random_verdict_cases, 400)]
+    runs = [(make, number, f"batch {seed}", random.Random(seed * len(kinds) + k)) for seed in range(batches) for k, (make, number) in enumerate(kinds)]
     differ, safe, ran = 0, 0, {}
-    for seed in range(batches):
-        rng = random.Random(seed)
-        for make in (random_query_cases, 400), (random_store_cases, 40), (random_verdict_cases, 400):
-            CASES.clear()
-            make[0](rng, make[1])
-            given = b"".join(c[0] for c in CASES)
-            assert len(given) < 65536, len(given)
-            got = subprocess.run([HERE / "target" / "bin" / "trials"], input=given, stdout=subprocess.PIPE, check=True).stdout.decode()
-            for line, (_, wanted) in zip(got.split("\n") + [""] * len(CASES), CASES):
-                ran[make[0]] = ran.get(make[0], 0) + 1
-                if line != wanted:
-                    differ += 1
-                    print(f"trials: batch {seed}: {line!r}, and not {wanted!r}")
-            safe += sum(w.endswith(" safe") for _, w in CASES)
-    print(f"trials: random cases: {', '.join(f'{n} of {make.__name__}' for make, n in ran.items())}; {safe} verdicts safe; {differ} differ")
+    for make, number, name, rng in runs + [(small_verdict_cases, size, f"{size} nodes", None) for size in range(1, 6)]:
+        CASES.clear()
+        make(rng, number) if rng else make(number)
+        differ += compare(name)
+        ran[make.__name__] = ran.get(make.__name__, 0) + len(CASES)
+        safe += sum(w.endswith(" safe") for _, w in CASES)
+    print(f"trials: {', '.join(f'{n} {name}' for name, n in ran.items())}; {safe} verdicts safe; {differ} differ")
     return 1 if differ else 0
 
 

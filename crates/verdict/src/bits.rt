@@ -1,21 +1,22 @@
-// Sets of nodes and variables as numbers: number 0 is the highest bit.
+// Sets of nodes and variables as numbers: number 0 is the highest bit. A node's bit is asked of a node of a form only, so of a number below 64.
 ghost use mathlib.Core.Path.{_≡_};
 ghost use mathlib.Core.List.{[], _∷_};
 ghost use Prim.Native.Nat.{_<_};
 ghost use lib.ListN.{take};
-ghost use Rattle.verdict.specs.Bits.{mask, has, without};
+ghost use Rattle.query.specs.Reading.{max-nodes};
+ghost use Rattle.verdict.specs.Bits.{node-mask, variable-mask, has, without};
 
 // The bit that stands for node n. Where it comes from is not seen outside this function.
 pub fn node_bit(n: usize) -> u64
-    requires { ⌜ n < 64 ⌝ }
-    ensures { λ r. ⌜ r ≡ mask 64 (n ∷ []) ⌝ }
+    requires { ⌜ n < max-nodes ⌝ }
+    ensures { λ r. ⌜ r ≡ node-mask (n ∷ []) ⌝ }
 {
     1u64 << (63 - n)
 }
 
 // The bit of a term where it is a variable, no bit where it is a constant.
 pub fn term_bit(t: u32) -> u16
-    ensures { λ r. ⌜ r ≡ mask 16 (t ∷ []) ⌝ }
+    ensures { λ r. ⌜ r ≡ variable-mask (t ∷ []) ⌝ }
 {
     if t < 16 {
         return 1u16 << (15 - t);
@@ -25,7 +26,7 @@ pub fn term_bit(t: u32) -> u16
 
 // The variables among the first count terms.
 pub fn term_bits(count: u32, a: u32, b: u32, c: u32, d: u32) -> u16
-    ensures { λ r. ⌜ r ≡ mask 16 (take count (a ∷ b ∷ c ∷ d ∷ [])) ⌝ }
+    ensures { λ r. ⌜ r ≡ variable-mask (take count (a ∷ b ∷ c ∷ d ∷ [])) ⌝ }
 {
     if count == 0 {
         return 0;

@@ -1,7 +1,7 @@
 // The constant-propagated form of an accepted query (000, 2.3), packed anew: left subtree, right subtree, parent.
 //
 // The words of the form stand at the front of an array, with zeros after them. A subtree is written after the words that are there; what propagation then
-// drops is set to zero again.
+// drops is set to zero again. The parts ask for room in the array: a form has at most as many nodes as its query, which cause 4 has judged.
 use query::NODES;
 use query::Query;
 use query::free;

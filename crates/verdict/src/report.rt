@@ -1,4 +1,5 @@
-// What the verdict reports: the generators of each column, the columns that aren't generated, and the exists nodes whose variable isn't.
+// What the verdict reports: the generators of each column, the columns that aren't generated, and the exists nodes whose variable isn't. It asks for the nodes
+// of a form with their sets, and for columns as the reader hands them back: at most 4, each below 16.
 use crate::bits;
 use crate::source;
 use query::COLUMNS;

@@ -101,6 +101,10 @@ module _ (ws : List ℕ) (q : Query) (a : Accepted ws q) where
   pub generator-bit : (c n : ℕ) → c < length (columns (formula q)) → n < max-nodes → has max-nodes (getD (judged q .generators) c 0) n ≡ member n (leaves (plain (cp (formula q)) 0 (getD (columns (formula q)) c 0)))
   generator-bit c n h l = ap (λ m. has max-nodes m n) (number-at (formula q) c h) ∙ has-bits (λ k. member k (leaves (plain (cp (formula q)) 0 (getD (columns (formula q)) c 0)))) max-nodes n l
 
+  -- They are the leaves beside a set that 000 allows, and none where it allows none.
+  pub generator-answered : (c : ℕ) → c < length (columns (formula q)) → (a : Leaves) × Answered (getD (columns (formula q)) c 0) (cp (formula q)) 0 a × (getD (judged q .generators) c 0 ≡ node-mask (leaves a))
+  generator-answered c h = let x : ℕ = getD (columns (formula q)) c 0 in (plain (cp (formula q)) 0 x, plain-answered (cp (formula q)) 0 x, number-at (formula q) c h)
+
   -- Each of them is a record of the form, or an equality of a variable with a constant.
   pub generator-atom : (c n : ℕ) → c < length (columns (formula q)) → n < max-nodes → has max-nodes (getD (judged q .generators) c 0) n ≡ true → AtNode Ap (cp (formula q)) 0 n
   generator-atom c n h l e =
