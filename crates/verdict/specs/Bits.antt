@@ -28,11 +28,12 @@ node-mask xs = mask max-nodes xs
 abbrev pub variable-mask : List ℕ → ℕ
 variable-mask xs = mask 16 xs
 
--- ---- how the code goes about it
-
--- Whether x is in a set of numbers below k, and the set without it.
+-- Whether x is in a set of numbers below k: its bit is set.
 abbrev pub has : ℕ → ℕ → ℕ → Bool
 has k set x = nonzero (bitAnd set (mask k (x ∷ [])))
 
+-- ---- how the code goes about it
+
+-- The set without x.
 abbrev pub without : ℕ → ℕ → ℕ → ℕ
 without k set x = bitAnd set (2 ^ k - 1 - mask k (x ∷ []))

@@ -14,6 +14,7 @@ use Rattle.verdict.specs.Form.{form-of}
 pub mod Laws
 pub mod Cases
 
+-- A refusal comes with no form, no columns, zero in every number, and not safe.
 abbrev pub refusal : ℕ → ℕ → Verdict
 refusal n p =
     record {
@@ -26,7 +27,7 @@ refusal n p =
       safe = false;
     }
 
--- The calculus' verdict as numbers, beside the form whose nodes it names: the columns of the query as read, the generators of each as a 64-bit number, the
+-- The calculus' verdict (here `Findings`) as numbers, beside the form whose nodes it names: the columns of the query as read, the generators of each as a 64-bit number, the
 -- columns that aren't generated as a 16-bit number, the exists nodes whose variable isn't as a 64-bit number, and whether it is safe-range.
 abbrev pub reported : Query → Findings → Verdict
 reported form v =
@@ -44,9 +45,11 @@ reported form v =
 abbrev pub judged : Query → Verdict
 judged q = reported (form-of q) (verdict (formula q))
 
+-- The reply: the reader's refusal, or the verdict on the query that it accepts.
 abbrev pub verdict-reply : Answer → Query → Verdict
 verdict-reply Done q = judged q
 verdict-reply (Refused n p) q = refusal n p
 
+-- For relations of the widths ws, to the bytes bs: causes 1 and 3 to 10.
 abbrev pub verdict-of : List ℕ → List ℕ → Verdict
 verdict-of ws bs = verdict-reply (read-of ws bs .answer) (read-of ws bs .query)

@@ -55,6 +55,8 @@ module _ (ws bs : List ℕ) where
 bit-means : {P : Type 0} (k : ℕ) (xs : List ℕ) (n : ℕ) → n < k → In n xs ↔ P → Reflects P (has k (mask k xs) n)
 bit-means {P} k xs n h e = subst⁻¹ (Reflects P) (has-bits (λ m. member m xs) k n h) (reflects-map (e .0) (e .1) (reflects-member n xs))
 
+-- ---- the number of a column
+
 getD-mapped : {A : Type 0} (f : ℕ → A) (d : A) (xs : List ℕ) (c : ℕ) → c < length xs → getD (map f xs) c d ≡ f (getD xs c 0)
 getD-mapped f d [] c h = absurd (omega arith)
 getD-mapped f d (x ∷ xs) zero h = refl
@@ -65,7 +67,6 @@ leaf-of : {x n : ℕ} {φ : Fmla} {a : Leaves} → Answered x φ n a → (p : �
 leaf-of (generated-by G g) p i = leaf-atom g p i
 leaf-of (not-generated g) p i = absurd (in-nil i)
 
--- The number of a column.
 number-at : (φ : Fmla) (c : ℕ) → c < length (columns φ) → getD (padded max-columns 0 (map node-mask (verdict φ .generators))) c 0 ≡ node-mask (leaves (plain (cp φ) 0 (getD (columns φ) c 0)))
 number-at φ c h =
     let gs : List ℕ = map node-mask (verdict φ .generators) in
@@ -142,6 +143,7 @@ module _ (ws : List ℕ) (q : Query) (a : Accepted ws q) where
       unranged-right (form-of q .nodes) (form-of q .«node_count») (form-is ws q a) form-spans
       ∙ ap (λ φ. node-mask (union-of unranged-node (nodes φ 0))) (form-root ws q a)
 
+-- A reply of these parts.
 abbrev pub reply : Query → Columns → List ℕ → ℕ → ℕ → Bool → Verdict
 reply f cs gs u w b = record { answer = Done; form = f; columns = cs; generators = gs; ungenerated = u; unranged = w; safe = b }
 
