@@ -1,5 +1,5 @@
-// The free variables of packed nodes, and a query's columns. For the reader, and for the verdict on the nodes of a form: a node count in range is asked for,
-// which cause 4 has judged.
+// The free variables of packed nodes, and a query's columns. For the reader; `is_free` also for the verdict, on the nodes of a form. A node count in range is
+// asked for, which cause 4 has judged.
 use crate::COLUMNS;
 use crate::Columns;
 use crate::NODES;

@@ -3,16 +3,16 @@
 // A packed query is a header of 16 bits (version 4, node count 7, constant count 5), then 32-bit constants, then 32-bit nodes, high byte first. The nodes
 // are a tree: the last one is the root, and a child's number is below its parent's. The reader judges any bytes (causes 1 and 3 to 10) and hands back the
 // constants and nodes of those that it accepts, with the query's columns.
-pub mod free;
+mod free;
 mod judge;
 mod node;
 mod unpack;
 
 use causes::Answer;
 use causes::RELATIONS;
+pub use free::is_free;
 ghost use mathlib.Core.Path.{_≡_};
-ghost use mathlib.Core.List.{[]};
-ghost use Rattle.query.specs.Reading.{query-of, columns-of, read-of, refusal};
+ghost use Rattle.query.specs.Reading.{read-of, refusal};
 
 // The limits of a query: its nodes, constants and columns. Variables are numbered from 0.
 pub const NODES: usize = 64;
@@ -44,33 +44,20 @@ pub struct Reading {
     pub columns: Columns,
 }
 
-// No query and no columns: what a refusal comes with.
-pub fn no_query() -> Query
-    ensures { λ q. ⌜ q ≡ query-of [] [] ⌝ }
-{
-    Query {
-        constants: [0u32; CONSTANTS],
-        constant_count: 0,
-        nodes: [0u32; NODES],
-        node_count: 0,
-    }
-}
-
-pub fn no_columns() -> Columns
-    ensures { λ c. ⌜ c ≡ columns-of [] ⌝ }
-{
-    Columns {
-        variables: [0u8; COLUMNS],
-        count: 0,
-    }
-}
-
 // The reply of a refusal.
 fn refused(number: u8, place: u8) -> Reading
     ensures { λ r. ⌜ r ≡ refusal number place ⌝ }
 {
-    let query = no_query();
-    let columns = no_columns();
+    let query = Query {
+        constants: [0u32; CONSTANTS],
+        constant_count: 0,
+        nodes: [0u32; NODES],
+        node_count: 0,
+    };
+    let columns = Columns {
+        variables: [0u8; COLUMNS],
+        count: 0,
+    };
     Reading {
         answer: Answer::Refused(number, place),
         query,

@@ -21,8 +21,8 @@ use Rattle.verdict.specs.Generating.Variables.{child-below, plain-in-sam
 
 -- ---- the last kind: what 32 bits leave past the others
 
-pub last-kind : (w : ℕ) → w < 4294967296 → (kind w ≡ 0 → ⊥) → (kind w ≡ 1 → ⊥) → (kind w ≡ 2 → ⊥) → (kind w ≡ 3 → ⊥) → (kind w ≡ 4 → ⊥) → (kind w ≡ 5 → ⊥) → (kind w ≡ 6 → ⊥) → kind w ≡ 7
-last-kind w h = go (kind w) (omega arith)
+pub kind-seven : (w : ℕ) → w < 4294967296 → (kind w ≡ 0 → ⊥) → (kind w ≡ 1 → ⊥) → (kind w ≡ 2 → ⊥) → (kind w ≡ 3 → ⊥) → (kind w ≡ 4 → ⊥) → (kind w ≡ 5 → ⊥) → (kind w ≡ 6 → ⊥) → kind w ≡ 7
+kind-seven w h = go (kind w) (omega arith)
   where
     go : (k : ℕ) → k < 8 → (k ≡ 0 → ⊥) → (k ≡ 1 → ⊥) → (k ≡ 2 → ⊥) → (k ≡ 3 → ⊥) → (k ≡ 4 → ⊥) → (k ≡ 5 → ⊥) → (k ≡ 6 → ⊥) → k ≡ 7
     go zero l p q r s t u v = absurd (p refl)

@@ -3,13 +3,14 @@
 use Prim.Native.Nat.{ℕ, suc, _+_, _*_, _-_, _≤_, _<_}
 use native.Mathlib.Omega.{arith}
 use mathlib.Core.Path.{_≡_, refl, sym, ap, subst, subst⁻¹, _∙_}
+use mathlib.Core.Logic.{inl, inr}
 use mathlib.Core.Bool.{Bool, true, false, true≢false, not, cond}
 use mathlib.Core.List.{List, [], _∷_, _++_}
 use lib.ListN.{length, getD, take, set, replicate, length-append, length-take}
 use lib.Dec.{T, eqb}
 use lib.Seq.{take-append-seam, take-suc, take-take, length-take-le, getD-take}
 use borrow.Author.Tests.{eq-eqb, ne-eqb, eqb-true, eqb-false}
-use Rattle.calculus.specs.Sets.{In, here, there, member}
+use Rattle.calculus.specs.Sets.{In, here, member}
 use Rattle.calculus.specs.Lists.{padded}
 use Rattle.calculus.specs.Lists.Laws.{length-padded, padded-over, padded-fill, padded-put}
 use Rattle.calculus.specs.Formula.{Fmla, truth, neg, exists, fv, size}
@@ -17,6 +18,7 @@ use Rattle.calculus.specs.Propagation.{is-truth as is-a-truth, cp}
 use Rattle.calculus.specs.Propagation.Laws.{TruthView, a-truth, no-truth, truth-view, join, cp-join, join-unit-left, join-zero-left, size-cp}
 use Rattle.causes.specs.Causes.{widths-fit}
 use Rattle.query.specs.Nodes.{kind, variable, left, right, under, children, malformed, mismatched}
+use Rattle.query.specs.Nodes.Laws.{both-children}
 use Rattle.query.specs.Decoding.{node-formula, formula-at, root}
 use Rattle.query.specs.declared.Query.{Query}
 use Rattle.query.specs.Reading.{max-nodes, max-constants, formula}
@@ -179,8 +181,8 @@ node-join true w child e = rw e
 node-join false w child e = rw e
 
 node-both : (u : Bool) (w : ℕ) → kind w ≡ join-kind u → In (left w) (children w) × In (right w) (children w)
-node-both true w e = rw e (here refl, there (here refl))
-node-both false w e = rw e (here refl, there (here refl))
+node-both true w e = both-children w (inl e)
+node-both false w e = both-children w (inr e)
 
 size-join : (u : Bool) (φ ψ : Fmla) → size (join u φ ψ) ≡ size φ + size ψ + 1
 size-join true φ ψ = refl

@@ -7,6 +7,7 @@ use Rattle.calculus.specs.Generators.{Verdict as Findings, verdict, safe}
 use Rattle.causes.specs.declared.Answer.{Answer}
 use Rattle.causes.specs.declared.Answer.the-variants.{Done, Refused}
 use Rattle.query.specs.declared.Query.{Query}
+use Rattle.query.specs.declared.Columns.{Columns}
 use Rattle.query.specs.Reading.{max-columns, read-of, formula, query-of, columns-of}
 use Rattle.verdict.specs.declared.Verdict.{Verdict}
 use Rattle.verdict.specs.Bits.{node-mask, variable-mask}
@@ -15,17 +16,20 @@ pub mod Laws
 pub mod Cases
 
 -- A refusal comes with no form, no columns, zero in every number, and not safe.
-abbrev pub refusal : ℕ → ℕ → Verdict
-refusal n p =
+abbrev pub refusal-with : ℕ → ℕ → Query → Columns → Verdict
+refusal-with n p form columns =
     record {
       answer = Refused n p;
-      form = query-of [] [];
-      columns = columns-of [];
+      form = form;
+      columns = columns;
       generators = padded max-columns 0 [];
       ungenerated = 0;
       unranged = 0;
       safe = false;
     }
+
+abbrev pub refusal : ℕ → ℕ → Verdict
+refusal n p = refusal-with n p (query-of [] []) (columns-of [])
 
 -- The calculus' verdict (here `Findings`) as numbers, beside the form whose nodes it names: the columns of the query as read, the generators of each as a 64-bit number, the
 -- columns that aren't generated as a 16-bit number, the exists nodes whose variable isn't as a 64-bit number, and whether it is safe-range.

@@ -4,7 +4,6 @@
 // drops is set to zero again. The parts ask for room in the array: a form has at most as many nodes as its query, which cause 4 has judged.
 use query::NODES;
 use query::Query;
-use query::free;
 ghost use mathlib.Core.Path.{_≡_};
 ghost use mathlib.Core.List.{[], _∷_, _++_};
 ghost use Prim.Native.Nat.{_+_, _≤_, _<_};
@@ -58,16 +57,17 @@ fn negate(out: &mut [u32; NODES], end: usize) -> usize
 {
     // As a slice: that gives the proof the length.
     let all: &[u32] = out;
-    let last = all[end - 1];
+    let top = end - 1;
+    let last = all[top];
     if last == 0 {
-        out[end - 1] = TRUE;
+        out[top] = TRUE;
         return end;
     }
     if last == TRUE {
-        out[end - 1] = 0;
-        return end;
+        out[top] = 0;
+        return end; // as many words as before
     }
-    push(out, end, 1610612736 + (end as u32 - 1) * 8388608)
+    push(out, end, 1610612736 + top as u32 * 8388608)
 }
 
 // An and (kind 4) or an or (kind 5) over the last two subtrees, the first of them no truth value. It starts at `at`, and the second at `middle`.
@@ -109,7 +109,7 @@ fn quantify(out: &mut [u32; NODES], end: usize, x: u32) -> usize
     requires { ⌜ (1 ≤ end) × (end < max-nodes) × (x < 16) × (now out ≡ padded max-nodes 0 (take end (now out))) ⌝ }
     ensures { λ r. ⌜ (r, now (out .exit)) ≡ written (quantified x (take end (now (out .entry)))) ⌝ }
 {
-    if free::is_free(out, end, x) {
+    if query::is_free(out, end, x) {
         return push(
             out,
             end,

@@ -14,7 +14,7 @@ use query::COLUMNS;
 use query::Columns;
 use query::Query;
 ghost use mathlib.Core.Path.{_≡_};
-ghost use Rattle.verdict.specs.Verdict.{verdict-of, refusal};
+ghost use Rattle.verdict.specs.Verdict.{refusal-with, verdict-of};
 
 // What the verdict answers. Generators are numbers of nodes of the form, node 0 the highest of 64 bits; `ungenerated` has variable 0 as the highest of 16,
 // `unranged` node 0 of the form as the highest of 64. A refusal comes with nothing else.
@@ -28,12 +28,10 @@ pub struct Verdict {
     pub safe: bool,
 }
 
-// The reply of a refusal.
-fn refused(number: u8, place: u8) -> Verdict
-    ensures { λ v. ⌜ v ≡ refusal number place ⌝ }
+// The reply of a refusal, with the query and the columns that the reader hands back then: none.
+fn refused(number: u8, place: u8, form: Query, columns: Columns) -> Verdict
+    ensures { λ v. ⌜ v ≡ refusal-with number place form columns ⌝ }
 {
-    let form = query::no_query();
-    let columns = query::no_columns();
     Verdict {
         answer: Answer::Refused(number, place),
         form,
@@ -52,7 +50,9 @@ pub fn judge(bytes: &[u8], widths: [u8; RELATIONS]) -> Verdict
     let reading = query::read(bytes, widths);
     let answer = reading.answer;
     if let Answer::Refused(number, place) = answer {
-        return refused(number, place);
+        let none = reading.query;
+        let no_columns = reading.columns;
+        return refused(number, place, none, no_columns);
     }
     let read = reading.query;
     let form = form::form_of(read);

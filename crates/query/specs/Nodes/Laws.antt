@@ -12,7 +12,7 @@ use lib.ListN.{length, getD, take, set, length-set}
 use lib.Seq.{take-suc, length-take-le, getD-set-same, getD-set-other}
 use lib.Dec.{eqb}
 use borrow.Author.Tests.{eq-eqb, ne-eqb}
-use Rattle.calculus.specs.Sets.{union-of}
+use Rattle.calculus.specs.Sets.{In, here, there, union-of}
 use Rattle.calculus.specs.Lists.{tabulate}
 use Rattle.calculus.specs.Lists.Laws.{length-tabulate, getD-tabulate, tabulate-of}
 use Rattle.query.specs.Nodes.{kind, by-kind, nonzero, malformed, left, right, under, children, term-count, terms, equal-term, used-terms, occurrences, uses, counted-with}
@@ -35,6 +35,9 @@ children-exists w e = rw e
 -- And, or.
 pub children-two : (w : ℕ) → 4 ≤ kind w → kind w ≤ 5 → children w ≡ left w ∷ right w ∷ []
 children-two w h l = ⊎-elim (λ e. rw e) (λ e. rw e) (two-or (kind w) h l)
+
+pub both-children : (w : ℕ) → (kind w ≡ 4) ⊎ (kind w ≡ 5) → In (left w) (children w) × In (right w) (children w)
+both-children w k = ⊎-elim (λ e. rw e (here refl, there (here refl))) (λ e. rw e (here refl, there (here refl))) k
 
 pub malformed-two : (w : ℕ) → 4 ≤ kind w → kind w ≤ 5 → malformed w ≡ nonzero (w % 131072)
 malformed-two w h l = ⊎-elim (λ e. rw e) (λ e. rw e) (two-or (kind w) h l)

@@ -25,7 +25,7 @@ use Rattle.verdict.specs.Form.Laws.{form-is}
 use Rattle.verdict.specs.Generating.{variables-in, plain-bits, missing-from}
 use Rattle.verdict.specs.Generating.Sources.{plains-at}
 use Rattle.verdict.specs.Verdict.{judged, verdict-of}
-use Rattle.verdict.specs.Verdict.Laws.{verdict-refused, verdict-done, column-small, variables-read, reply, assembled}
+use Rattle.verdict.specs.Verdict.Laws.{refused-with, verdict-done, column-small, variables-read, reply, assembled}
 use Rattle.verdict.proofs.judge.Statement.{statement}
 use Rattle.verdict.proofs.judge.Tie as tie
 
@@ -119,8 +119,8 @@ refused-requires c κs = search needs
 
 returns : tie.Need-returns
 returns c =
-    let r = c .before .before .before .before in
-    c .refused .ensures ∙ sym (verdict-refused (widths r) (bytes r) _ _ (ap (λ v. v .answer) (sym (r .read .ensures)) ∙ c .before .before .answer .given .1))
+    let t = c .before .before .before .before in let r = t .before .before in
+    c .refused .ensures ∙ refused-with (widths r) (bytes r) (r .read .result) _ _ (r .read .ensures) (t .answer .given .1)
 
 enum-told : tie.Need-enum-told
 enum-told c = search needs

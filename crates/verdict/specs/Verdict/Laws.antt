@@ -25,6 +25,7 @@ use Rattle.calculus.specs.SafeRange.Answers.{columns-members, ungenerated-means
 use Rattle.causes.specs.declared.Answer.the-variants.{Done, Refused}
 use Rattle.query.specs.declared.Query.{Query}
 use Rattle.query.specs.declared.Columns.{Columns}
+use Rattle.query.specs.declared.Reading.{Reading}
 use Rattle.query.specs.Decoding.{formula-at}
 use Rattle.query.specs.Free.Laws.{fv-small}
 use Rattle.query.specs.Reading.{max-nodes, max-columns, read-of, nodes-in, pool, formula, columns-of}
@@ -32,7 +33,7 @@ use Rattle.query.specs.Packing.{words}
 use Rattle.query.specs.Packing.Bytes.{Bytes, bytes-at}
 use Rattle.query.specs.Packing.Laws.{length-words}
 use Rattle.query.specs.Accepted.{Accepted}
-use Rattle.query.specs.Accepted.Laws.{read-accepted}
+use Rattle.query.specs.Accepted.Laws.{read-accepted, read-refused}
 use Rattle.verdict.specs.declared.Verdict.{Verdict}
 use Rattle.verdict.specs.Bits.{mask, node-mask, has}
 use Rattle.verdict.specs.Bits.Laws.{has-bits, mask-empty}
@@ -40,13 +41,19 @@ use Rattle.verdict.specs.Form.{form-of}
 use Rattle.verdict.specs.Form.Laws.{form-accepted, form-count, form-formula, form-pool, form-is, form-root}
 use Rattle.verdict.specs.Generating.{variables-in, generated-bits, plain-bits, numbers-of, missing-from, unranged-in}
 use Rattle.verdict.specs.Generating.Reports.{numbers-right, unranged-right, missing-right}
-use Rattle.verdict.specs.Verdict.{refusal, judged, verdict-reply, verdict-of}
+use Rattle.verdict.specs.Verdict.{refusal-with, refusal, judged, verdict-reply, verdict-of}
 
 -- ---- the reply, by the reader's answer
 
 module _ (ws bs : List ℕ) where
   pub verdict-refused : (n p : ℕ) → read-of ws bs .answer ≡ Refused n p → verdict-of ws bs ≡ refusal n p
   verdict-refused n p e = ap (λ a. verdict-reply a (read-of ws bs .query)) e
+
+  -- With what the reader hands back.
+  pub refused-with : (r : Reading) (n p : ℕ) → r ≡ read-of ws bs → r .answer ≡ Refused n p → refusal-with n p (r .query) (r .columns) ≡ verdict-of ws bs
+  refused-with r n p d e =
+      let f : read-of ws bs .answer ≡ Refused n p = ap (λ v. v .answer) (sym d) ∙ e in
+      ap (λ v. refusal-with n p (v .query) (v .columns)) (d ∙ read-refused ws bs n p f) ∙ sym (verdict-refused n p f)
 
   pub verdict-done : read-of ws bs .answer ≡ Done → verdict-of ws bs ≡ judged (read-of ws bs .query)
   verdict-done e = ap (λ a. verdict-reply a (read-of ws bs .query)) e

@@ -4,17 +4,14 @@ use Rattle.verdict.proofs.Writing.{negated-false, negated-true, negated
 use Rattle.verdict.proofs.form.negate.Statement.{statement}
 use Rattle.verdict.proofs.form.negate.Tie as tie
 
-sub-last : tie.Need-sub-last
-sub-last c = search needs
+sub-top : tie.Need-sub-top
+sub-top c = search needs
 
 mul-last : tie.Need-mul-last
 mul-last c = search needs
 
 shared-slice-read-last : tie.Need-shared-slice-read-last
 shared-slice-read-last c = search needs
-
-sub-out : tie.Need-sub-out
-sub-out c = search needs
 
 mul-out : tie.Need-mul-out
 mul-out c = search needs
@@ -26,9 +23,6 @@ returns : tie.Need-returns
 returns c =
     let s = c .before .before .before .before in let out = s .args .out .now in let end = s .args .end in
     negated-false out end (s .pre .0) (s .pre .1) (s .pre .2) (c .if1 .taken)
-
-sub-out-2 : tie.Need-sub-out-2
-sub-out-2 c = search needs
 
 mul-out-2 : tie.Need-mul-out-2
 mul-out-2 c = search needs
@@ -43,9 +37,6 @@ returns-2 c =
 
 cast-push : tie.Need-cast-push
 cast-push c = search needs
-
-sub-push : tie.Need-sub-push
-sub-push c = search needs
 
 mul-push : tie.Need-mul-push
 mul-push c = search needs
@@ -65,19 +56,16 @@ pub negate-spec : {M : Type 1} → statement M
 negate-spec =
     tie.close
     (tie.spec
-    sub-last
+    sub-top
     mul-last
     shared-slice-read-last
-    sub-out
     mul-out
     element-write-out
     returns
-    sub-out-2
     mul-out-2
     element-write-out-2
     returns-2
     cast-push
-    sub-push
     mul-push
     add-push
     push-requires

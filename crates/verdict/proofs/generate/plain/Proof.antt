@@ -2,7 +2,7 @@
 use borrow.Author.Needs.{needs}
 use borrow.Author.Tests.{eq-eqb, ne-eqb, le-ltb, lt-ltb}
 use Rattle.query.specs.Nodes.{truth-bit, equal-term}
-use Rattle.verdict.proofs.Sets.{last-kind}
+use Rattle.verdict.proofs.Sets.{kind-seven}
 use Rattle.verdict.proofs.generate.plain.Statement.{statement}
 use Rattle.verdict.proofs.generate.plain.Tie as tie
 
@@ -105,7 +105,7 @@ returns-9 c = rw (c .before .before .match .keys7, c .leave-out .ensures)
 returns-10 : tie.Need-returns-10
 returns-10 c =
     let r = c .match .rest in
-    rw (last-kind (c .before .args .w) (c .before .fits .w .fits) (r .0 .0 .0 .0 .0 .0 .1) (r .0 .0 .0 .0 .0 .1) (r .0 .0 .0 .0 .1) (r .0 .0 .0 .1) (r .0 .0 .1) (r .0 .1) (r .1))
+    rw (kind-seven (c .before .args .w) (c .before .fits .w .fits) (r .0 .0 .0 .0 .0 .0 .1) (r .0 .0 .0 .0 .0 .1) (r .0 .0 .0 .0 .1) (r .0 .0 .0 .1) (r .0 .0 .1) (r .0 .1) (r .1))
 
 pub plain-spec : {M : Type 1} → statement M
 plain-spec =

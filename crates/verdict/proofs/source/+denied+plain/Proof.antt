@@ -7,11 +7,11 @@ use Prim.Native.Nat.{ℕ, zero, suc, _≤_, _<_}
 use mathlib.Core.Path.{_≡_, refl, sym, ap, subst, _∙_}
 use mathlib.Core.Logic.{_⊎_, inl, inr}
 use mathlib.Core.Bool.{Bool, true, false}
-use mathlib.Core.List.{List, [], _∷_}
+use mathlib.Core.List.{List}
 use lib.ListN.{getD}
 use Rattle.calculus.specs.Sets as sets
 use Rattle.query.specs.Nodes.{kind, left, right, under, children}
-use Rattle.query.specs.Nodes.Laws.{children-not, children-two, children-exists}
+use Rattle.query.specs.Nodes.Laws.{children-not, children-exists, both-children}
 use Rattle.verdict.specs.Bits.{has}
 use Rattle.verdict.specs.Form.{IsForm}
 use Rattle.verdict.specs.Generating.{plain-bits, denied-bits, sets-of, plain-nodes, other-side}
@@ -36,16 +36,6 @@ use Rattle.verdict.proofs.source.+denied+plain.Tie.{close}
 -- An and or an or: a node with two children.
 abbrev HasTwo : ℕ → Type 0
 HasTwo w = (kind w ≡ 4) ⊎ (kind w ≡ 5)
-
-two-children : (w : ℕ) → HasTwo w → children w ≡ left w ∷ right w ∷ []
-two-children w (inl k) = children-two w (omega arith) (omega arith)
-two-children w (inr k) = children-two w (omega arith) (omega arith)
-
-left-child : (w : ℕ) → HasTwo w → sets.In (left w) (children w)
-left-child w k = rw (two-children w k) (sets.here refl)
-
-right-child : (w : ℕ) → HasTwo w → sets.In (right w) (children w)
-right-child w k = rw (two-children w k) (sets.there (sets.here refl))
 
 -- The kinds of a record and an equality.
 leaf-kind : (k : ℕ) → 1 ≤ k → k < 3 → (k ≡ 1) ⊎ (k ≡ 2)
@@ -83,10 +73,10 @@ module _ {t : ℕ} {ns ps ds : List ℕ} {n i x : ℕ} (g : Given t ns ps ds n i
   to-not k = to-child (rw (children-not word k) (sets.here refl)) (g .1 .0 .2)
 
   to-left : HasTwo word → (left word < t) × Asked ns ps ds n (left word) x
-  to-left k = to-child (left-child word k) (g .1 .0 .2)
+  to-left k = to-child (both-children word k .0) (g .1 .0 .2)
 
   to-right : HasTwo word → (right word < t) × Asked ns ps ds n (right word) x
-  to-right k = to-child (right-child word k) (g .1 .0 .2)
+  to-right k = to-child (both-children word k .1) (g .1 .0 .2)
 
   to-exists : kind word ≡ 6 → (under word < t) × Asked ns ps ds n (under word) x
   to-exists k = to-child (rw (children-exists word k) (sets.here refl)) (g .1 .0 .2)
@@ -325,7 +315,7 @@ module _ (t : ℕ) where
   plain-plain-requires-3 : plain-lts.Need-plain-requires-3 (plain-claims t) (plain-at t) plain.Post
   plain-plain-requires-3 c κs =
       let at = plain-and (c .before .before .before) in let g = plain-start (at .before) .pre in
-      to-child g (left-child (word g) (inl (at .match .keys3))) (subst (λ (y : ℕ). y < 16) (sym (c .other .ensures)) (plain-equated (c .before .before) .0))
+      to-child g (both-children (word g) (inl (at .match .keys3)) .0) (subst (λ (y : ℕ). y < 16) (sym (c .other .ensures)) (plain-equated (c .before .before) .0))
 
   plain-plain-requires-4 : plain-lts.Need-plain-requires-4 (plain-claims t) (plain-at t) plain.Post
   plain-plain-requires-4 c κs = to-left (plain-start (c .before) .pre) (inr (c .match .keys4))
