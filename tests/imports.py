@@ -13,6 +13,8 @@ KINDS = {
     ".antt": (r"(use )", "--"),
     ".rt": (r"((?:pub )?use |ghost use )", "//"),
 }
+# What stands between names: one of antt may have hyphens, also in a contract in the source.
+BETWEEN = {"use": r"[^\w]+", "antt": r"[\s(){}.;,]+"}
 
 
 def used(name, tokens):
@@ -24,8 +26,9 @@ def unused(text, start, comment):
     lines = text.split("\n")
     body = "\n".join(l for l in lines if not re.match(start, l))
     code = re.sub(comment + r".*", "", body)
-    tokens = set(re.split(r"[\s(){}.;,]+", code)) | set(re.split(r"[^\w]+", code))
+    names_of = {kind: set(re.split(between, code)) for kind, between in BETWEEN.items()}
     for line in lines:
+        tokens = names_of["antt" if comment == "--" or line.startswith("ghost ") else "use"]
         match = re.fullmatch(start + r"(.*)\.\{(.*)\}(;?)", line)
         single = re.fullmatch(start + r"(?:.*::)?(\w+);", line)
         if match:

@@ -17,7 +17,7 @@ use Rattle.calculus.specs.Satisfaction.{Pool}
 use Rattle.calculus.specs.Generators.{columns}
 use Rattle.causes.specs.declared.Answer.{Answer}
 use Rattle.causes.specs.declared.Answer.the-variants.{Done, Refused}
-use Rattle.causes.specs.Causes.{clear, first-cause, when, widths-fit}
+use Rattle.causes.specs.Causes.{first-cause, widths-fit}
 use Rattle.causes.specs.Causes.Laws.{width-fits, first-done, AllClear, first-cause-done, when-clear, lowest-clear}
 use Rattle.query.specs.declared.Query.{Query}
 use Rattle.query.specs.Nodes.{relation, term-count, terms, variable, equal-term, left, right, under, children, uses, malformed, misplaced, is-stray, strays, mismatched}
@@ -105,7 +105,7 @@ module _ (ws cs ns : List ℕ) (c : Checked ws cs ns) where
   placed-parts : (i : ℕ) → i < length ns → (any-of (leb i) (children (getD ns i 0)) ≡ false) × (not (eqb (i + 1) (length ns)) && not (eqb (uses ns i) 1) ≡ false)
   placed-parts i h = or-fails (any-of (leb i) (children (getD ns i 0))) (not (eqb (i + 1) (length ns)) && not (eqb (uses ns i) 1)) (c .placed i h)
 
-  pub children-below : (i : ℕ) → i < length ns → (d : ℕ) → In d (children (getD ns i 0)) → d < i
+  children-below : (i : ℕ) → i < length ns → (d : ℕ) → In d (children (getD ns i 0)) → d < i
   children-below i h d m = leb-false i d (any-of-false (leb i) (children (getD ns i 0)) (placed-parts i h .0) d m)
 
   once : (i : ℕ) → i + 1 < length ns → uses ns i ≡ 1

@@ -3,8 +3,8 @@ use Prim.Native.Nat.{ℕ, zero, suc, _+_, _*_, _-_, _/_, _%_, _≤_, _<_}
 use native.Mathlib.Nat.{add-zero, zero-add}
 use native.Mathlib.Decide.{decLt}
 use native.Mathlib.Omega.{arith}
-use mathlib.Core.Path.{_≡_, refl, sym, ap, subst, subst⁻¹, _∙_}
-use mathlib.Core.Bool.{false, true≢false, not, _||_, cond}
+use mathlib.Core.Path.{_≡_, refl, sym, ap, subst⁻¹, _∙_}
+use mathlib.Core.Bool.{false, not, _||_, cond}
 use mathlib.Core.List.{List, [], _∷_, _++_, map}
 use lib.ListN.{length, getD, take, drop, length-append, length-map, List·getD-append}
 use lib.Seq.{getD-append-add, ext-getD, length-take-le}
@@ -13,19 +13,18 @@ use borrow.Author.Tests.{le-leb, lt-leb}
 use Rattle.calculus.specs.Sets.{any-of}
 use Rattle.calculus.specs.Lists.Laws.{or-fails}
 use Rattle.calculus.specs.Reflects.{reflects-eqb}
-use Rattle.calculus.specs.Formula.{Term, Fmla, truth, rel, eq, size}
+use Rattle.calculus.specs.Formula.{Term, Fmla, size}
 use Rattle.causes.specs.declared.Answer.the-variants.{Done}
 use Rattle.causes.specs.Causes.{widths-fit}
 use Rattle.causes.specs.Causes.Laws.{width-fits}
-use Rattle.query.specs.Nodes.{kind, truth-bit, relation, term-count, terms, variable, equal-term, left, right, under, children, nonzero, malformed, mismatched}
-use Rattle.query.specs.Decoding.{term-of, node-formula, formula-at, root}
-use Rattle.query.specs.Decoding.Laws.{Kind, is-truth, is-record, is-equality, is-not, is-and, is-or, is-exists, is-none, kind-of, formula-step}
+use Rattle.query.specs.Nodes.{kind, truth-bit, relation, term-count, terms, variable, equal-term, left, right, under, nonzero, malformed, mismatched}
+use Rattle.query.specs.Decoding.{term-of, root}
 use Rattle.query.specs.Reading.{constants-of, nodes-of, read-of, pool, formula}
-use Rattle.query.specs.Packing.{term-code, terms-code, words, packed-bytes, pack, Ordered, InOrder}
-use Rattle.query.specs.Packing.Trees.{after-one, after-two}
+use Rattle.query.specs.Packing.{term-code, terms-code, words, packed-bytes, pack, InOrder}
+use Rattle.query.specs.Packing.Numbering.{Kept, whole-kept}
 use Rattle.query.specs.Packing.Bytes.{Bytes, bytes-at, packed-again}
 use Rattle.query.specs.Packing.Laws.{length-words, Placed}
-use Rattle.query.specs.Accepted.Laws.{confirmed, Checked, children-below, size-right, read-pool, read-formula, read-headed, constant-fits, read-checked}
+use Rattle.query.specs.Accepted.Laws.{confirmed, Checked, size-right, read-pool, read-formula, read-headed, constant-fits, read-checked}
 
 pub nonzero-false : (n : ℕ) → nonzero n ≡ false → n ≡ 0
 nonzero-false n e = confirmed (reflects-eqb n 0) e
@@ -86,17 +85,15 @@ record-again w e n f =
     let c = codes-again (term-count w) (w / 131072 % 32) (w / 4096 % 32) (w / 128 % 32) (w / 4 % 32) n (omega arith) (omega arith) (omega arith) (omega arith) (z .1) in
     record-fields w e (nonzero-false (w % 4) (z .0)) ∙ (λ i. 536870912 + relation w * 33554432 + sym l i * 4194304 + sym c i)
 
-not-again : (w : ℕ) → kind w ≡ 3 → w % 8388608 ≡ 0 → w ≡ 3 * 536870912 + left w * 8388608
-not-again w e z = omega arith
+not-again : (w : ℕ) {c : ℕ} → kind w ≡ 3 → left w ≡ c → malformed w ≡ false → w ≡ 3 * 536870912 + c * 8388608
+not-again w e l f = omega (arith, nonzero-false (w % 8388608) (rw e at f))
 
-and-again : (w : ℕ) → kind w ≡ 4 → w % 131072 ≡ 0 → w ≡ 4 * 536870912 + left w * 8388608 + right w * 131072
-and-again w e z = omega arith
+-- Above two children, an and is of kind 4 and an or of kind 5.
+both-again : (k w : ℕ) {c d : ℕ} → kind w ≡ k → left w ≡ c → right w ≡ d → nonzero (w % 131072) ≡ false → w ≡ k * 536870912 + c * 8388608 + d * 131072
+both-again k w e l r f = omega (arith, nonzero-false (w % 131072) f)
 
-or-again : (w : ℕ) → kind w ≡ 5 → w % 131072 ≡ 0 → w ≡ 5 * 536870912 + left w * 8388608 + right w * 131072
-or-again w e z = omega arith
-
-exists-again : (w : ℕ) → kind w ≡ 6 → w % 524288 ≡ 0 → w ≡ 6 * 536870912 + variable w * 33554432 + under w * 524288
-exists-again w e z = omega arith
+exists-again : (w : ℕ) {c : ℕ} → kind w ≡ 6 → under w ≡ c → malformed w ≡ false → w ≡ 6 * 536870912 + variable w * 33554432 + c * 524288
+exists-again w e l f = omega (arith, nonzero-false (w % 524288) (rw e at f))
 
 -- ---- the words of a node's formula end at the node
 
@@ -115,65 +112,12 @@ module _ (ns : List ℕ) where
           let f : length xs + (i - length xs) ≡ i = omega arith in
           ap (λ j. getD ns j 0) d ∙ q (i - length xs) (omega (arith, length-append xs ys)) ∙ sym (getD-append-add xs ys (i - length xs) 0) ∙ ap (λ j. getD (xs ++ ys) j 0) f
 
-  -- The words of φ stand in ns, and end at node c.
-  abbrev Ends : ℕ → Fmla → Type 0
-  Ends c φ = (n : ℕ) × (n + size φ ≡ suc c) × Placed ns n (words φ n)
+  -- The words of φ stand from n on, and node c after them; or those of φ, of ψ, and node c.
+  above-placed : (n c : ℕ) (φ : Fmla) {w : ℕ} → n + size φ ≡ c → getD ns c 0 ≡ w → Placed ns n (words φ n) → Placed ns n (words φ n ++ (w ∷ []))
+  above-placed n c φ {w} s e p = placed-join n c (words φ n) (w ∷ []) p (placed-one c w e) (omega (arith, length-words φ n))
 
-  snoc-placed : (φ : Fmla) (c d w : ℕ) → d + 1 ≡ c → getD ns c 0 ≡ w → (r : Ends d φ) → Placed ns (r .0) (words φ (r .0) ++ (w ∷ []))
-  snoc-placed φ c d w h e r = placed-join (r .0) c (words φ (r .0)) (w ∷ []) (r .2) (placed-one c w e) (omega (arith, length-words φ (r .0), r .1))
-
-  leaf-ends : (φ : Fmla) (c w : ℕ) → size φ ≡ 1 → words φ c ≡ w ∷ [] → getD ns c 0 ≡ w → Ends c φ
-  leaf-ends φ c w s e d = (c, omega arith, subst⁻¹ (Placed ns c) e (placed-one c w d))
-
-  -- A node above one child, or two, whose word is that function of the children's numbers.
-  one-ends : (φ : Fmla) (c d : ℕ) (word : ℕ → ℕ) → d + 1 ≡ c → getD ns c 0 ≡ word d → Ends d φ
-      → (n : ℕ) × (n + (size φ + 1) ≡ suc c) × Placed ns n (words φ n ++ (word (n + size φ - 1) ∷ []))
-  one-ends φ c d word h e r =
-      let l : d ≡ r .0 + size φ - 1 = omega (arith, r .1) in
-      (r .0, omega (arith, r .1), snoc-placed φ c d (word (r .0 + size φ - 1)) h (e ∙ ap word l) r)
-
-  two-ends : (φ ψ : Fmla) (a b c : ℕ) (word : ℕ → ℕ → ℕ) → a + size ψ ≡ b → b + 1 ≡ c → getD ns c 0 ≡ word a b → Ends a φ → Ends b ψ
-      → (n : ℕ) × (n + (size φ + size ψ + 1) ≡ suc c) × Placed ns n (words φ n ++ (words ψ (n + size φ) ++ (word (n + size φ - 1) (n + size φ + size ψ - 1) ∷ [])))
-  two-ends φ ψ a b c word g h e r q =
-      let d : q .0 ≡ r .0 + size φ = omega (arith, r .1, q .1) in
-      let l : a ≡ r .0 + size φ - 1 = omega (arith, r .1) in
-      let m : b ≡ r .0 + size φ + size ψ - 1 = omega (arith, r .1) in
-      let w : ℕ = word (r .0 + size φ - 1) (r .0 + size φ + size ψ - 1) in (
-        r .0,
-        omega (arith, r .1),
-        placed-join (r .0) (r .0 + size φ) (words φ (r .0)) (words ψ (r .0 + size φ) ++ (w ∷ [])) (r .2)
-            (subst (λ m. Placed ns m (words ψ m ++ (w ∷ []))) d (snoc-placed ψ c b w h (e ∙ (λ i. word (l i) (m i))) q))
-            (omega (arith, length-words φ (r .0))),
-      )
-
-  module _ (c w : ℕ) (at : getD ns c 0 ≡ w) (before : (d : ℕ) → d < c → Ends d (formula-at ns d)) where
-    -- What is known of a node above two children.
-    abbrev Both : Type 0
-    Both = (left w + size (formula-at ns (right w)) ≡ right w) × (right w + 1 ≡ c) × Ends (left w) (formula-at ns (left w)) × Ends (right w) (formula-at ns (right w))
-
-    both-before : Ordered ns c (left w ∷ right w ∷ []) → Both
-    both-before o = let g = after-two o in (g .0, g .1, before (left w) (omega (arith, g .0, g .1)), before (right w) (omega (arith, g .1)))
-
-    node-ends : malformed w ≡ false → (kind w ≡ 1 → term-count w ≤ 4) → Ordered ns c (children w) → Ends c (node-formula w (formula-at ns))
-    node-ends f n o = go (kind-of w)
-      where
-        go : Kind w → Ends c (node-formula w (formula-at ns))
-        go (is-truth e) = rw e (leaf-ends (truth (eqb (truth-bit w) 1)) c (cond (eqb (truth-bit w) 1) 268435456 0) refl refl (at ∙ truth-again w e (nonzero-false (w % 268435456) (rw e at f))))
-        go (is-record e) = rw e (leaf-ends (rel (relation w) (terms-in w)) c (536870912 + relation w * 33554432 + length (terms-in w) * 4194304 + terms-code (terms-in w)) refl refl (at ∙ record-again w e (n e) (rw e at f)))
-        go (is-equality e) = rw e (leaf-ends (eq (variable w) (term-of (equal-term w))) c (2 * 536870912 + variable w * 33554432 + term-code (term-of (equal-term w)) * 1048576) refl refl (at ∙ equality-again w e (nonzero-false (w % 1048576) (rw e at f))))
-        go (is-not e) =
-            let g = after-one (rw e at o) in
-            rw e (one-ends (formula-at ns (left w)) c (left w) (λ l. 3 * 536870912 + l * 8388608) g (at ∙ not-again w e (nonzero-false (w % 8388608) (rw e at f))) (before (left w) (omega arith)))
-        go (is-and e) =
-            let b = both-before (rw e at o) in
-            rw e (two-ends (formula-at ns (left w)) (formula-at ns (right w)) (left w) (right w) c (λ l r. 4 * 536870912 + l * 8388608 + r * 131072) (b .0) (b .1) (at ∙ and-again w e (nonzero-false (w % 131072) (rw e at f))) (b .2) (b .3))
-        go (is-or e) =
-            let b = both-before (rw e at o) in
-            rw e (two-ends (formula-at ns (left w)) (formula-at ns (right w)) (left w) (right w) c (λ l r. 5 * 536870912 + l * 8388608 + r * 131072) (b .0) (b .1) (at ∙ or-again w e (nonzero-false (w % 131072) (rw e at f))) (b .2) (b .3))
-        go (is-exists e) =
-            let g = after-one (rw e at o) in
-            rw e (one-ends (formula-at ns (under w)) c (under w) (λ l. 6 * 536870912 + variable w * 33554432 + l * 524288) g (at ∙ exists-again w e (nonzero-false (w % 524288) (rw e at f))) (before (under w) (omega arith)))
-        go (is-none k e) = absurd (true≢false (rw e at f))
+  both-placed : (n c : ℕ) (φ ψ : Fmla) {w : ℕ} → n + (size φ + size ψ) ≡ c → getD ns c 0 ≡ w → Placed ns n (words φ n) → Placed ns (n + size φ) (words ψ (n + size φ)) → Placed ns n (words φ n ++ (words ψ (n + size φ) ++ (w ∷ [])))
+  both-placed n c φ ψ {w} s e p q = placed-join n (n + size φ) (words φ n) (words ψ (n + size φ) ++ (w ∷ [])) p (above-placed (n + size φ) c ψ (omega arith) e q) (omega (arith, length-words φ n))
 
 -- ---- the words of the root's formula are the nodes
 
@@ -186,22 +130,22 @@ placed-all : (xs ns : List ℕ) → length xs ≡ length ns → Placed ns 0 xs �
 placed-all xs ns e p = ext-getD 0 xs ns e (λ i l. sym (p i l) ∙ rw zero-add)
 
 module _ (ws cs ns : List ℕ) (checked : Checked ws cs ns) (order : InOrder ns) where
-  all-end : (m c : ℕ) → c < m → c < length ns → Ends ns c (formula-at ns c)
-  all-end zero c h l = absurd (omega arith)
-  all-end (suc m) c h l =
-      subst⁻¹
-      (Ends ns c)
-      (formula-step ns c (children-below ws cs ns checked c l))
-      (node-ends ns c (getD ns c 0) refl (λ d g. all-end m d (omega arith) (omega arith)) (checked .formed c l) (record-width ws (getD ns c 0) (checked .widths) (checked .relations-held c l)) (order c l))
+  words-kept : Kept ns (length ns) (λ n φ. Placed ns n (words φ n))
+  words-kept = record {
+    truth-kept = (λ i h e f. placed-one ns i _ (truth-again (getD ns i 0) e (nonzero-false (getD ns i 0 % 268435456) (rw e at (checked .formed i h)))));
+    record-kept = (λ i h e f. placed-one ns i _ (record-again (getD ns i 0) e (record-width ws (getD ns i 0) (checked .widths) (checked .relations-held i h) e) (rw e at (checked .formed i h))));
+    equality-kept = (λ i h e f. placed-one ns i _ (equality-again (getD ns i 0) e (nonzero-false (getD ns i 0 % 1048576) (rw e at (checked .formed i h)))));
+    not-kept = (λ i n φ h e f s c p. above-placed ns n i φ s (not-again (getD ns i 0) e c (checked .formed i h)) p);
+    and-kept = (λ i n φ ψ h e f s c d p q. both-placed ns n i φ ψ s (both-again 4 (getD ns i 0) e c d (rw e at (checked .formed i h))) p q);
+    or-kept = (λ i n φ ψ h e f s c d p q. both-placed ns n i φ ψ s (both-again 5 (getD ns i 0) e c d (rw e at (checked .formed i h))) p q);
+    exists-kept = (λ i n φ h e f s c p. above-placed ns n i φ s (exists-again (getD ns i 0) e c (checked .formed i h)) p);
+  }
 
   -- Nodes that are accepted and stand in order are the words of the formula that they decode to.
   pub words-again : words (root ns) 0 ≡ ns
-  words-again = go (all-end (length ns) (length ns - 1) (omega (arith, checked .some-node)) (omega (arith, checked .some-node)))
-    where
-      go : Ends ns (length ns - 1) (root ns) → words (root ns) 0 ≡ ns
-      go r =
-          let z : r .0 ≡ 0 = omega (arith, r .1, size-right ws cs ns checked, checked .some-node) in
-          placed-all (words (root ns) 0) ns (length-words (root ns) 0 ∙ size-right ws cs ns checked) (subst (λ n. Placed ns n (words (root ns) n)) z (r .2))
+  words-again =
+      placed-all (words (root ns) 0) ns (length-words (root ns) 0 ∙ size-right ws cs ns checked)
+      (whole-kept ns (length ns) (λ n φ. Placed ns n (words φ n)) words-kept (checked .formed) order (checked .some-node) (size-right ws cs ns checked))
 
 -- ---- the packing of what reading accepted
 

@@ -2,11 +2,11 @@
 -- calculus, and safe-range is 000's, widened as document 01 says.
 use Prim.Native.Nat.{ℕ, zero, suc, _-_, _≤_, _<_}
 use native.Mathlib.Omega.{arith}
-use mathlib.Core.Path.{_≡_, refl, sym, ap, subst, subst⁻¹, _∙_}
+use mathlib.Core.Path.{_≡_, refl, sym, ap, subst⁻¹, _∙_}
 use mathlib.Core.Logic.{_↔_}
 use mathlib.Core.Bool.{Bool, true, _&&_}
 use mathlib.Core.List.{List, [], _∷_, map, map-map}
-use lib.ListN.{length, getD, take, replicate, length-map}
+use lib.ListN.{length, getD, replicate, length-map}
 use lib.Seq.{take-append-seam}
 use lib.Dec.{T, eqb}
 use Rattle.calculus.specs.Sets.{In, member, union-of}
@@ -29,7 +29,6 @@ use Rattle.query.specs.declared.Reading.{Reading}
 use Rattle.query.specs.Decoding.{formula-at}
 use Rattle.query.specs.Free.Laws.{fv-small}
 use Rattle.query.specs.Reading.{max-nodes, max-columns, read-of, nodes-in, pool, formula, columns-of}
-use Rattle.query.specs.Packing.{words}
 use Rattle.query.specs.Packing.Bytes.{Bytes, bytes-at}
 use Rattle.query.specs.Packing.Laws.{length-words}
 use Rattle.query.specs.Accepted.{Accepted}
