@@ -9,7 +9,7 @@ use Rattle.calculus.specs.Lists.{tabulate, padded}
 use Rattle.calculus.specs.Order.{is-ascending}
 use Rattle.calculus.specs.Satisfaction.{Database}
 use Rattle.causes.specs.declared.Answer.{Answer}
-use Rattle.causes.specs.Causes.{check, first-cause, when, widths-fit}
+use Rattle.causes.specs.Causes.{Check, check, first-cause, when, widths-fit}
 use Rattle.tables.specs.declared.Record.{Record}
 use Rattle.tables.specs.declared.Store.{Store}
 use Rattle.tables.specs.Records.{values-of, blank, record-below, is-blank, fits, fact-of}
@@ -62,8 +62,11 @@ abbrev pub in-layout : Store → Bool
 in-layout s = leb (s .count) capacity && all-of (fits (s .widths)) (held s) && is-ascending record-below (held s) && all-of is-blank (unused s)
 
 -- Causes 1 and 2.
+abbrev pub store-checks : Store → List Check
+store-checks s = check 1 (when (not (widths-fit (s .widths)))) ∷ check 2 (when (not (in-layout s))) ∷ []
+
 abbrev pub judgement : Store → Answer
-judgement s = first-cause (check 1 (when (not (widths-fit (s .widths)))) ∷ check 2 (when (not (in-layout s))) ∷ [])
+judgement s = first-cause (store-checks s)
 
 -- The store of the given places, widths and count.
 abbrev pub of-places : List ℕ → List Record → ℕ → Store

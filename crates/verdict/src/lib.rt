@@ -14,7 +14,10 @@ use query::COLUMNS;
 use query::Columns;
 use query::Query;
 ghost use mathlib.Core.Path.{_≡_};
-ghost use Rattle.verdict.specs.Verdict.{refusal-with, verdict-of};
+ghost use Rattle.calculus.specs.Generators.{columns as columns-read};
+ghost use Rattle.query.specs.Reading.{formula, columns-of};
+ghost use Rattle.verdict.specs.Form.{IsAccepted};
+ghost use Rattle.verdict.specs.Verdict.{refusal-with, judged as judgement, verdict-of};
 
 // What the verdict answers. Generators are numbers of nodes of the form, node 0 the highest of 64 bits; `ungenerated` has variable 0 as the highest of 16,
 // `unranged` node 0 of the form as the highest of 64. A refusal comes with nothing else.
@@ -43,25 +46,17 @@ fn refused(number: u8, place: u8, form: Query, columns: Columns) -> Verdict
     }
 }
 
-// The verdict on the query that the bytes hold, for relations of these widths: causes 1 and 3 to 10.
-pub fn judge(bytes: &[u8], widths: [u8; RELATIONS]) -> Verdict
-    ensures { λ v. ⌜ v ≡ verdict-of widths (now (bytes .entry)) ⌝ }
+// The verdict on an accepted query, with its columns.
+pub fn judged(read: Query, columns: Columns) -> Verdict
+    requires { ⌜ IsAccepted read × (columns ≡ columns-of (columns-read (formula read))) ⌝ }
+    ensures { λ v. ⌜ v ≡ judgement read ⌝ }
 {
-    let reading = query::read(bytes, widths);
-    let answer = reading.answer;
-    if let Answer::Refused(number, place) = answer {
-        let none = reading.query;
-        let no_columns = reading.columns;
-        return refused(number, place, none, no_columns);
-    }
-    let read = reading.query;
     let form = form::form_of(read);
     let nodes = form.nodes;
     let n = form.node_count;
     let sets = generate::generated(&nodes, n);
     let plains = sets.plains;
     let denieds = sets.denieds;
-    let columns = reading.columns;
     let generators = report::generators(&nodes, &plains, &denieds, n, columns);
     let ungenerated = report::ungenerated(plains[n - 1], columns);
     let unranged = report::unranged(&nodes, &plains, n);
@@ -74,4 +69,18 @@ pub fn judge(bytes: &[u8], widths: [u8; RELATIONS]) -> Verdict
         unranged,
         safe: ungenerated == 0 && unranged == 0,
     }
+}
+
+// The verdict on the query that the bytes hold, for relations of these widths: causes 1 and 3 to 10.
+pub fn judge(bytes: &[u8], widths: [u8; RELATIONS]) -> Verdict
+    ensures { λ v. ⌜ v ≡ verdict-of widths (now (bytes .entry)) ⌝ }
+{
+    let reading = query::read(bytes, widths);
+    let answer = reading.answer;
+    let read = reading.query;
+    let columns = reading.columns;
+    if let Answer::Refused(number, place) = answer {
+        return refused(number, place, read, columns);
+    }
+    judged(read, columns)
 }
