@@ -1,6 +1,6 @@
 -- A test beside what it tests: one lemma for a test says both that it is sound and that it is complete.
 use Prim.Native.Nat.{ℕ, suc, _<_, _≤_}
-use mathlib.Core.Path.{_≡_, refl, subst}
+use mathlib.Core.Path.{_≡_, refl, subst, subst⁻¹}
 use mathlib.Core.Logic.{_⊎_, inl, inr}
 use mathlib.Core.Bool.{Bool, true, false, not, _&&_, _||_}
 use lib.Dec.{T, eqb, eqb→eq, eqb-refl, leb, leb→le, le→leb, ltb}
@@ -31,6 +31,13 @@ reflects-false (fails m) n = refl
 pub reflects-true : {A : Type 0} {b : Bool} → Reflects A b → A → b ≡ true
 reflects-true (holds a) x = refl
 reflects-true (fails n) x = absurd (n x)
+
+-- What a test whose value is known shows.
+pub confirmed-by : {A : Type 0} {b : Bool} → b ≡ true → Reflects A b → A
+confirmed-by e r = reflected r (subst⁻¹ T e tt)
+
+pub refuted : {A : Type 0} {b : Bool} → b ≡ false → Reflects A b → ¬ A
+refuted e r x = subst T e (reflects r x)
 
 -- What is reflected is decided.
 pub decided : {A : Type 0} {b : Bool} → Reflects A b → A ⊎ (¬ A)
