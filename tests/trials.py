@@ -1,18 +1,21 @@
 #!/usr/bin/env python3
 """Cases for the program crates/trials, and what document 01 says of each: an account of the reader and of the tables that shares nothing with the engine.
-That of the verdict is in verdicts.py.
+That of the verdict is in verdicts.py, that of answers in answers.py.
 
 trials.py             compares crates/trials/stdin and crates/trials/stdout with what this account gives; exit status 1 where they differ
 trials.py --write     writes both files
-trials.py --random N  runs the built program on N batches of random queries, verdicts and stores, and on the verdicts of all formulas of at most five nodes over
-                      seven leaves, and compares; exit status 1 where they differ
+trials.py --random N  runs the built program on N batches of random queries, verdicts, stores and answers, on the verdicts of all formulas of at most five nodes
+                      over seven leaves, on the answers of all such formulas over six leaves and six stores, and on answers of many rows, and compares; exit
+                      status 1 where they differ
 """
+import math
 import pathlib
 import random
 import struct
 import subprocess
 import sys
 
+import answers
 import verdicts
 
 # ---- queries, from document 01, "The packed query"
@@ -251,6 +254,36 @@ def fill_case(name, widths, records, expect=None, kind="f"):
     if expect is not None:
         assert number == expect, (name, number, expect)
     case(kind, name, bytes(widths) + b"".join(map(pack_record, records)), changed_text(number, after))
+
+
+def found(s, data, safe_wanted):
+    """What an answer says before it looks at the buffer: how it declines or that the query is endless, or the rows."""
+    number, reading = s.judge(), read(list(data), s.widths)
+    if number:
+        return answer_text(number), None
+    if reading[0] == "refused":
+        return query_text(reading), None
+    _, columns, constants, nodes = reading
+    if safe_wanted and not verdicts.verdict(columns, nodes)[-1]:
+        return answer_text(11), None
+    rows = answers.answer(columns, constants, nodes, s.held())
+    return (" endless", None) if rows is None else ("", rows)
+
+
+def answer_case(name, s, given, data, room, safe_wanted=False, expect=None):
+    """room: the length of the buffer, or a function that gives it for the length of the rows. expect: the line up to the rest of the buffer."""
+    text, rows = found(s, data, safe_wanted)
+    numbers = [v for row in rows or [] for v in row]
+    room = room(len(numbers)) if callable(room) else room
+    if len(numbers) > room:
+        text, numbers = answer_text(18), []
+    elif rows is not None:
+        text = f" rows {len(rows)}" + "".join(f" {v}" for v in numbers)
+    assert expect is None or text == expect, (name, text, expect)
+    h = 7
+    for i in range(len(numbers), room):
+        h = h % 1000003 * 31 + 7 * i + 1
+    case("a", name, struct.pack(">BH", safe_wanted, room) + pack_store(s, given) + bytes(data), text + f" rest {h}")
 
 
 def words_bytes(nodes, constants=(), header=None):
@@ -535,8 +568,179 @@ def random_verdict_cases(rng, number):
         verdict_case(f"v{i}", words_bytes(random_order(rng, t), [7, 9]), [1, 2, 3, 4] + [0] * 12)
 
 
+# ---- answers
+
+THREE = [(0, 7, 3, 0, 0), (0, 9, 3, 0, 0), (1, 7, 0, 0, 0)]  # the records of store S
+LENT = 8192  # the most numbers that the program lends
+
+
+def named_answer_cases():
+    def a(name, nodes, expect, safe, constants=(), records=THREE, widths=WIDTHS_S):
+        """The rows, or None for endless: safe-range answers wanted and not; a buffer with room for one number more, for none more, and with one number less."""
+        s, data = Store(widths, records), words_bytes(nodes, constants)
+        size = 0 if expect is None else sum(map(len, expect))
+        text = " endless" if expect is None else f" rows {len(expect)}" + "".join(f" {v}" for row in expect for v in row)
+        answer_case(name, s, records, data, size + 1, False, text)
+        answer_case(name + ", safe wanted", s, records, data, size, True, text if safe else " refused 11 0")
+        if size:
+            answer_case(name + ", no room", s, records, data, size - 1, safe, " refused 18 0")
+
+    # the worked cases
+    a("0(x,y) and not 1(x)", NODES, [[9, 3]], True)
+    a("not 1(x)", [R1, no(0)], None, False)
+    a("1(x) and x = y", [R1, equality(0, 1), both(0, 1)], [[7, 7]], True)
+    a("x = y and 1(x)", [equality(0, 1), R1, both(0, 1)], [[7, 7]], False)
+    a("not (not 1(x) or not x = y)", [R1, no(0), equality(0, 1), no(2), either(1, 3), no(4)], [[7, 7]], False)
+    a("1(x) and y = y", [R1, equality(1, 1), both(0, 1)], None, False)
+    a("1(x) and y = y over no records", [R1, equality(1, 1), both(0, 1)], [], False, (), [])
+    a("false and 1(x)", [FALSE, R1, both(0, 1)], [], True)
+    a("exists y 1(x)", [R1, some(1, 0)], [[7]], True)
+    a("exists x not 1(x)", [R1, no(0), some(0, 1)], [[]], False)
+    a("x = 7", [equality(0, 16)], [[7]], True, [7])
+    a("x = 7 over no records", [equality(0, 16)], [[7]], True, [7], [])
+    a("exists y (0(x,y) or 1(x))", [R0, R1, either(0, 1), some(1, 2)], [[7], [9]], False)
+    # document 01's traps, and what else quantifiers may get wrong
+    a("1(x) and exists x not 1(x)", [R1, R1, no(1), some(0, 2), both(0, 3)], [[7]], False)
+    a("exists x 1(x) and not 1(x)", [R1, some(0, 0), R1, no(2), both(1, 3)], None, False)
+    a("1(x) and not not x = y", [R1, equality(0, 1), no(1), no(2), both(0, 3)], [[7, 7]], False)
+    a("exists x exists y not x = y", [equality(0, 1), no(0), some(1, 1), some(0, 2)], [[]], False)
+    different = [equality(0, 1), no(0), equality(0, 2), no(2), both(1, 3), equality(1, 2), no(5), both(4, 6)]
+    a("x, y and z different, over no records", different, None, False, (), [])
+    a("exists x, y, z different, over no records", different + [some(2, 7), some(1, 8), some(0, 9)], [[]], False, (), [])
+    outside = [equality(0, 1), equality(0, 16), either(0, 1), equality(1, 16), either(2, 3), no(4)]
+    a("x and y different and not 0, over no records", outside, None, False, [0], [])
+    a("exists x, y different and not 0, over no records", outside + [some(1, 5), some(0, 6)], [[]], False, [0], [])
+    a("exists y not (x = y or 0(x,y)) and 1(x)", [equality(0, 1), R0, either(0, 1), no(2), some(1, 3), R1, both(4, 5)], [[7]], False)
+    a("not exists y not 0(y,x)", [record(0, 1, 0), no(0), some(1, 1), no(2)], [], False)
+    a("true", [TRUE], [[]], True)
+    a("false", [FALSE], [], True)
+    a("x = y", [equality(0, 1)], None, False)
+    a("exists y x = y", [equality(0, 1), some(1, 0)], None, False)
+    ends = [(1, v, 0, 0, 0) for v in (0, 4294967294, 4294967295)]
+    a("the least and the greatest values", [record(1, 15)], [r[1:2] for r in ends], True, (), ends)
+    a("another than these", [R1, no(0), some(0, 1)], [[]], False, (), ends)
+    a("constants in a record", [record(0, 17, 16)], [[]], True, [3, 9])
+    a("a variable twice in a record", [record(0, 4, 4)], [[5]], True, (), [(0, 4, 5, 0, 0), (0, 5, 5, 0, 0)])
+    # the limits
+    a("64 nodes", chain(64), None, False)
+    a("63 nodes", chain(63), [[7]], True)
+    a("16 constants", joined_by(either, [equality(3, 16 + i) for i in range(16)]), [[i] for i in range(1, 17)], True, range(16, 0, -1))
+    a("4 free variables", [record(3, 3, 15, 7, 11)], [[1, 3, 4, 2]], True, (), [(3, 1, 2, 3, 4)], [0, 0, 0, 4] + [0] * 12)
+
+    def r(name, expect, data, s=None, given=THREE, safe=False, room=9):
+        answer_case(name, Store(WIDTHS_S, given) if s is None else s, given, data, room, safe, f" refused {expect}")
+
+    r("answer: 1, before 2 and 3", "1 0", b"", Store([2, 5] + [0] * 14, THREE, 2))
+    r("answer: 2, before 3", "2 0", b"", Store(WIDTHS_S, THREE, 2))
+    r("answer: 2, 257 records", "2 0", WORKED, Store(WIDTHS_S, THREE, 257))
+    r("answer: 3", "3 0", b"\x10")
+    r("answer: 4, 65 nodes", "4 0", words_bytes(chain(65), header=1 << 12 | 65 << 5))
+    r("answer: 4, 17 constants", "4 0", words_bytes([equality(0, 16)], range(17)))
+    r("answer: 5", "5 0", WORKED[:-1])
+    r("answer: 6", "6 1", nodes_with(n1=0xE0000000))
+    r("answer: 7", "7 0", nodes_with(n3=both(2, 2)))
+    r("answer: 8", "8 1", nodes_with(n1=R1 | 16 << 17))
+    r("answer: 9", "9 1", nodes_with(n1=0x2E400000))
+    r("answer: 10, 5 free variables, before 11", "10 0", words_bytes(joined([equality(0, 1), equality(2, 3), equality(4, 4)])), safe=True)
+    r("answer: 11 before 18", "11 0", words_bytes([equality(0, 1), R1, both(0, 1)]), safe=True, room=0)
+    answer_case("endless before 18", Store(WIDTHS_S, THREE), THREE, words_bytes([R1, no(0)]), 0, False, " endless")
+
+
+def products(sizes):
+    """Records of as many relations of width 1 as there are sizes, and so many of each."""
+    return [(i, 10 * v + i, 0, 0, 0) for i, n in enumerate(sizes) for v in range(n)]
+
+
+def large_answer_cases():
+    """Many records, and many rows: as many as the engine keeps aside while it counts them, a row more, and as many as the program can lend."""
+    full = [(0, i // 16, i % 16, 0, 0) for i in range(256)]
+    for room in (511, 512, 513):
+        answer_case(f"256 records, {room}", Store(WIDTHS_S, full), full, words_bytes([R0]), room)
+    answer_case("257 records", Store(WIDTHS_S, full, 257), full, words_bytes([R0]), 512)
+    ring = [(0, 16777216 * i, 16777216 * (i * 7 % 256), 0, 0) for i in range(256)]
+    both_ways = words_bytes([R0, record(0, 1, 0), no(1), both(0, 2)])
+    within = words_bytes([R0, record(0, 0, 1), both(0, 1), some(1, 2), no(3), R0, both(5, 4)])
+    path = words_bytes([R0, record(0, 1, 2), both(0, 1), some(1, 2)])
+    for name, records in (("grid", full), ("ring", ring)):
+        answer_case(f"256 records, {name}, one way only", Store(WIDTHS_S, records), records, both_ways, 512)
+        answer_case(f"256 records, {name}, none", Store(WIDTHS_S, records), records, within, 512)
+    answer_case("256 records joined", Store(WIDTHS_S, full), full, path, 600)
+    wide = [(3, i // 64, i // 16 % 4, i // 4 % 4, i % 4) for i in range(256)]
+    answer_case("256 records of width 4", Store([0, 0, 0, 4] + [0] * 12, wide), wide, words_bytes([record(3, 0, 1, 2, 3)]), 1024)
+    for sizes in ([32, 32], [31, 33], [25, 41], [22, 31, 1], [4, 9, 19], [8, 4, 4, 4], [19, 27, 1, 1], [8, 8, 8, 4], [10, 10, 10, 10]):
+        records = products(sizes)
+        widths = [1] * len(sizes) + [0] * (16 - len(sizes))
+        query = words_bytes(joined([record(i, i) for i in range(len(sizes))]))
+        size = len(sizes) * math.prod(sizes)
+        for room in sorted({size - 1, size, size + 1, 2047, 2048, LENT}):
+            if room <= LENT:
+                answer_case(f"{sizes} in {room}", Store(widths, records), records, query, room)
+
+
+def room_for(rng):
+    """A buffer about as long as the rows."""
+    return lambda size: max(0, size + rng.choice([0, 0, 0, 0, -1, -1, 1, 2, 10]))
+
+
+def random_query(rng, values):
+    """The bytes of a query. Most formulas are endless or have no rows: some are bounded by a record for each variable, before or after, or by quantifiers."""
+    names = rng.choice([[0], [0, 1], [0, 1], [0, 1, 2], [0, 1, 2], [3, 7, 11, 15], [0, 1, 2, 3, 4]])
+    t = random_tree(rng, rng.choice([3, 6, 10, 16, 24]), names)
+    bounds = rng.choice(["none", "records", "records", "quantifiers"])
+    for x in names if bounds != "none" else []:
+        over = (record(0, x),) if rng.random() < 0.7 else (record(1, *rng.sample([x, names[0]], 2)),)
+        if bounds == "records":
+            t = (4 << 29, *rng.sample([over, t], 2))
+        elif rng.random() < 0.8:
+            t = (6 << 29 | x << 25, t)
+    return words_bytes(random_order(rng, t), [rng.choice(values + [5]), 9])
+
+
+def random_answer_cases(rng, number):
+    for i in range(number):
+        values = rng.choice([[0, 1], [7, 9], [0, 7, 4294967295], [1, 7, 8, 9]])
+        widths = [1, 2, 3, 4] + [0] * 12
+        relations = [rng.randrange(4) for _ in range(rng.choice([0, 2, 5, 10, 20]))]
+        records = sorted({(r, *(rng.choice(values) if k <= r else 0 for k in range(4))) for r in relations})
+        data = random_query(rng, values)
+        if rng.random() < 0.5:
+            several = lambda query: len(found(Store(widths, records), query, False)[1] or []) > 1
+            data = next(filter(several, (random_query(rng, values) for _ in range(10))), data)
+        count, data = len(records), bytearray(data)
+        if rng.random() < 0.04:
+            data[rng.randrange(len(data))] ^= 1 << rng.randrange(8)
+        if rng.random() < 0.02:
+            count = rng.randrange(300)
+        if rng.random() < 0.01:
+            widths[rng.randrange(16)] = rng.choice([0, 1, 5])
+        answer_case(f"a{i}", Store(widths, records, count), records, data, room_for(rng), rng.random() < 0.2)
+
+
+def literal(rng, names):
+    """A leaf or a not of one: mostly an equality of two variables."""
+    term = lambda: rng.choice(names + names + names + [16])
+    leaf = (equality(*rng.sample(names, 2)),) if rng.random() < 0.6 else (record(1, term(), term()),) if rng.random() < 0.6 else (record(0, term()),)
+    return leaf if rng.random() < 0.4 else (3 << 29, leaf)
+
+
+def random_prenex_cases(rng, number):
+    """Quantifiers, some of them under nots, over literals joined by and and or: how many different values there are decides many of these."""
+    for i in range(number):
+        values = rng.choice([[], [0], [7], [0, 7], [0, 1, 4294967295]])
+        records = sorted({(r, rng.choice(values), rng.choice(values) if r else 0, 0, 0) for r in (0, 0, 1, 1, 1) if values and rng.random() < 0.7})
+        names = rng.sample(range(16), rng.choice([2, 3, 3, 4, 4, 5]))
+        t = literal(rng, names)
+        for _ in range(rng.choice([1, 2, 3, 5, 8, 10])):
+            t = (rng.choice([4, 4, 4, 5]) << 29, *rng.sample([t, literal(rng, names)], 2))
+        for x in rng.sample(names, len(names) - rng.choice([0, 0, 1, 2, 3, 4]) % len(names)):
+            t = (6 << 29 | x << 25, t)
+            t = rng.choice([t, t, (3 << 29, t), (3 << 29, (3 << 29, t)), (rng.choice([4, 5]) << 29, literal(rng, names), t)])
+        s, data = Store([1, 2] + [0] * 14, records), words_bytes(random_order(rng, t), rng.choice([[0], [7], [5, 0]]))
+        answer_case(f"p{i}", s, records, data, room_for(rng))
+
+
 def store_cases():
-    s = Store(WIDTHS_S, [(0, 7, 3, 0, 0), (0, 9, 3, 0, 0), (1, 7, 0, 0, 0)])
+    s = Store(WIDTHS_S, THREE)
     few = lambda: Store(WIDTHS_S, s.held())
     three = s.held()
     store_case("s", "store S", s, three, expect=0)
@@ -585,8 +789,7 @@ def store_cases():
     full = Store(WIDTHS_S, [(0, i, i % 5, 0, 0) for i in range(256)])
     store_case("s", "256 records", full, full.places, expect=0)
     store_case("p", "put: 15 at 256 records", full, full.places, (1, 1, 0, 0, 0), expect=15)
-    store_case("p", "put: 14 at 256 records", full, full.places, (0, 255, 0, 0, 0), expect=14)
-    store_case("r", "removal at 256 records", full, full.places, (0, 100, 0, 0, 0), expect=0)
+    answer_case("answer over 256 records", full, full.places, words_bytes([equality(0, 16), R0, both(0, 1)], [200]), 2, True, " rows 1 200 0")
     most = Store(WIDTHS_S, [(0, i, 1, 0, 0) for i in range(1, 256)])
     store_case("p", "put of the 256th, first", most, most.held(), (0, 0, 1, 0, 0), expect=0)
 
@@ -608,6 +811,14 @@ def fill_cases():
     many = [(0, i, 0, 0, 0) for i in range(257)]
     fill_case("fill of 256 backward, and a repeat", WIDTHS_S, many[255::-1] + many[:1], 0)
     fill_case("fill: 15 at 257, before 13", WIDTHS_S, many + [(9, 0, 0, 0, 0)], 15)
+
+
+def large_store_cases():
+    """What is left of 256 and 257 records."""
+    full = Store(WIDTHS_S, [(0, i, i % 5, 0, 0) for i in range(256)])
+    store_case("p", "put: 14 at 256 records", full, full.places, (0, 255, 0, 0, 0), expect=14)
+    store_case("r", "removal at 256 records", full, full.places, (0, 100, 0, 0, 0), expect=0)
+    many = [(0, i, 0, 0, 0) for i in range(257)]
     fill_case("fill: 13 at 257, before 15", WIDTHS_S, many[:256] + [(9, 0, 0, 0, 0)] + many[256:], 13)
 
 
@@ -635,6 +846,7 @@ def random_store_cases(rng, number):
 def stored_cases():
     named_query_cases()
     named_verdict_cases()
+    named_answer_cases()
     store_cases()
     fill_cases()
     random_verdict_cases(random.Random(20261115), 40)
@@ -645,9 +857,8 @@ def stored_cases():
 HERE = pathlib.Path(__file__).resolve().parent.parent
 
 
-def small_trees(size):
-    """Every formula of so many nodes over seven leaves, not, and, or, and exists of x and of y."""
-    leaves = [TRUE, FALSE, R1, record(1, 1), equality(0, 1), equality(0, 16), equality(0, 0)]
+def small_trees(size, leaves):
+    """Every formula of so many nodes over the leaves, not, and, or, and exists of x and of y."""
     trees = {1: [(w,) for w in leaves]}
     for n in range(2, size + 1):
         trees[n] = [(w, t) for w in (3 << 29, 6 << 29, 6 << 29 | 1 << 25) for t in trees[n - 1]]
@@ -657,8 +868,30 @@ def small_trees(size):
 
 def small_verdict_cases(size):
     first = random.Random(0)
-    for i, t in enumerate(small_trees(size)):
+    leaves = [TRUE, FALSE, R1, record(1, 1), equality(0, 1), equality(0, 16), equality(0, 0)]
+    for i, t in enumerate(small_trees(size, leaves)):
         verdict_case(f"n{size}.{i}", words_bytes(random_order(first, t), [7]))
+
+
+SMALL_STORES = [
+    [],
+    [(1, 7, 0, 0, 0)],
+    [(1, 0, 0, 0, 0), (1, 7, 0, 0, 0), (1, 4294967295, 0, 0, 0)],
+    THREE,
+    [(0, 7, 7, 0, 0), (1, 0, 0, 0, 0)],
+    [(0, 0, 1, 0, 0), (0, 1, 0, 0, 0), (1, 1, 0, 0, 0), (1, 7, 0, 0, 0)],
+]
+
+
+def small_answer_cases(size):
+    first = random.Random(1)
+    leaves = [FALSE, R1, record(1, 1), R0, equality(0, 1), equality(0, 16)]
+    for i, t in enumerate(small_trees(size, leaves)):
+        data = words_bytes(random_order(first, t), [7])
+        _, *query = read(list(data), WIDTHS_S)
+        for k, records in enumerate(SMALL_STORES):
+            answer_case(f"s{size}.{i}.{k}", Store(WIDTHS_S, records), records, data, room_for(first))
+            assert size > 4 or answers.answer(*query, records) == answers.answer(*query, records, more=2), (data, records)
 
 
 ROOM = 65000  # bytes of cases that the program takes at once
@@ -683,16 +916,21 @@ def compare(seed):
 
 
 def compare_random(batches):
-    kinds = [(random_query_cases, 400), (random_store_cases, 40), (random_verdict_cases, 400)]
+    kinds = [(random_query_cases, 400), (random_store_cases, 40), (random_verdict_cases, 400), (random_answer_cases, 300), (random_prenex_cases, 100)]
     runs = [(make, number, f"batch {seed}", random.Random(seed * len(kinds) + k)) for seed in range(batches) for k, (make, number) in enumerate(kinds)]
-    differ, safe, ran = 0, 0, {}
-    for make, number, name, rng in runs + [(small_verdict_cases, size, f"{size} nodes", None) for size in range(1, 6)]:
+    runs += [(make, size, f"{size} nodes", None) for make in (small_verdict_cases, small_answer_cases) for size in range(1, 6)]
+    runs += [(large_store_cases, None, "large stores", None), (large_answer_cases, None, "large answers", None)]
+    differ, ran, of = 0, {}, {" safe": 0, " endless rest": 0, " rows": 0, " refused 18": 0}
+    for make, number, name, rng in runs:
         CASES.clear()
-        make(rng, number) if rng else make(number)
+        make(*(word for word in (rng, number) if word is not None))
         differ += compare(name)
         ran[make.__name__] = ran.get(make.__name__, 0) + len(CASES)
-        safe += sum(w.endswith(" safe") for _, w in CASES)
-    print(f"trials: {', '.join(f'{n} {name}' for name, n in ran.items())}; {safe} verdicts safe; {differ} differ")
+        for _, wanted in CASES:
+            for text in of:
+                of[text] += text in wanted
+    print(f"trials: {', '.join(f'{n} {name}' for name, n in ran.items())}")
+    print(f"trials: {of[' safe']} verdicts safe; {of[' rows']} answers listed, {of[' endless rest']} endless, {of[' refused 18']} without room; {differ} differ")
     return 1 if differ else 0
 
 

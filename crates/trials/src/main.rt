@@ -1,4 +1,4 @@
-// Runs the calls of the crates tables, query and verdict on the cases of standard input, and writes a line for each: its name, and the reply.
+// Runs the calls of the crates tables, query, verdict and answer on the cases of standard input, and writes a line for each: its name, and the reply.
 //
 // A case is a kind, the length of its name (1 byte), the length of its body (2 bytes, high byte first), the name and the body. Kinds:
 // q reads a query: the body is sixteen widths and the query's bytes. v gives the verdict on it.
@@ -6,9 +6,12 @@
 //   number of record places that follow (2 bytes), and those places, 17 bytes each; places that don't follow are zero.
 // f fills a store: the body is sixteen widths, and the records, 17 bytes each.
 // l fills a store from a lent list: the same, with eight records.
+// a answers a query: the body is whether safe-range answers are wanted (1 byte), the length of the buffer (2 bytes, at most 8,192), a store as above, and the
+//   query's bytes. The reply ends with a sum over the numbers of the buffer past the rows.
 mod lend;
 
 ghost use Prim.Native.Nat.{_≤_, _<_};
+use answer::Found;
 use causes::Answer;
 use query::Columns;
 use query::Query;
@@ -16,6 +19,9 @@ use tables::Changed;
 use tables::Record;
 use tables::Store;
 use verdict::Verdict;
+
+// The most numbers that are lent to an answer.
+const LENT: usize = 8192;
 
 // The byte at i, or 0 past the end.
 fn byte(s: &[u8], i: usize) -> u8 {
@@ -71,16 +77,19 @@ fn widths_of(s: &[u8], from: usize) -> [u8; 16]
     widths
 }
 
-fn store_of(s: &[u8]) -> Store {
-    let widths = widths_of(s, 17);
-    let count = pair(s, 33);
-    let given = pair(s, 35);
+// The store at a place of a body.
+fn store_of(s: &[u8], from: usize) -> Store
+    requires { ⌜ from < 100 ⌝ }
+{
+    let widths = widths_of(s, from);
+    let count = pair(s, from + 16);
+    let given = pair(s, from + 18);
     let mut relations = [0u8; 256];
     let mut values = [0u32; 1024];
     let mut i = 0;
     while i < 256 {
         if i < given {
-            let r = record_of(s, 37 + 17 * i);
+            let r = record_of(s, from + 20 + 17 * i);
             tables::place::write(&mut relations, &mut values, i, r);
         }
         i += 1;
@@ -314,15 +323,100 @@ fn run_judge(s: Store) {
     }
 }
 
+// A buffer of which so many numbers are lent: they tell whether and where it is written to.
+fn lent(room: usize) -> [u32; LENT]
+    requires { ⌜ room ≤ 8192 ⌝ }
+{
+    let mut numbers = [0u32; LENT];
+    let mut i = 0;
+    while i < room {
+        numbers[i] = (7 * i + 1) as u32;
+        i += 1;
+    }
+    numbers
+}
+
+// A sum over the numbers from a place on.
+fn sum_from(s: &[u32], from: usize) -> u64 {
+    let mut h = 7;
+    let mut i = from;
+    while i < s.len() {
+        h = mixed(h, s[i]);
+        i += 1;
+    }
+    h
+}
+
+// How many numbers so many rows have, for at most 65,536 rows and four columns.
+fn numbers_of(rows: usize, columns: usize) -> usize {
+    let n = capped(rows);
+    match columns {
+        0 => 0,
+        1 => n,
+        2 => 2 * n,
+        3 => 3 * n,
+        _ => 4 * n,
+    }
+}
+
+fn list_rows(f: Found, numbers: &[u32], end: usize) {
+    if f.endless {
+        io::write_all(1, b" endless");
+        return;
+    }
+    io::write_all(1, b" rows");
+    word(f.rows as u64);
+    list_numbers(numbers, end, false);
+}
+
+fn list_found(f: Found, columns: usize, numbers: &[u32]) {
+    let end = numbers_of(f.rows, columns);
+    let answer = f.answer;
+    match answer {
+        Answer::Done => list_rows(f, numbers, end),
+        Answer::Refused(number, place) => refused(number, place),
+    }
+    io::write_all(1, b" rest");
+    word(sum_from(numbers, end));
+}
+
+// The rows have as many columns as the reader finds.
+fn answer_in(s: Store, bytes: &[u8], wanted: bool, out: &mut [u32]) {
+    let widths = s.widths;
+    let reading = query::read(bytes, widths);
+    let columns = reading.columns;
+    let f = answer::find(s, bytes, wanted, out);
+    list_found(f, columns.count, out);
+}
+
+fn run_answer(body: &[u8]) {
+    let start = 23 + 17 * pair(body, 21);
+    if body.len() < start {
+        return;
+    }
+    let room = pair(body, 1);
+    if LENT < room {
+        return;
+    }
+    let mut space = lent(room);
+    answer_in(
+        store_of(body, 3),
+        &body[start..],
+        byte(body, 0) == 1,
+        &mut space[..room],
+    );
+}
+
 fn run(kind: u8, body: &[u8]) {
     match kind {
         b'q' => run_query(body),
         b'v' => run_verdict(body),
-        b's' => run_judge(store_of(body)),
-        b'p' => list_changed(tables::change::put(store_of(body), record_of(body, 0))),
-        b'r' => list_changed(tables::change::remove(store_of(body), record_of(body, 0))),
+        b's' => run_judge(store_of(body, 17)),
+        b'p' => list_changed(tables::change::put(store_of(body, 17), record_of(body, 0))),
+        b'r' => list_changed(tables::change::remove(store_of(body, 17), record_of(body, 0))),
         b'f' => run_fill(body),
         b'l' => run_lent_fill(body),
+        b'a' => run_answer(body),
         _ => {}
     }
 }
