@@ -739,6 +739,35 @@ def random_prenex_cases(rng, number):
         answer_case(f"p{i}", s, records, data, room_for(rng))
 
 
+def random_join(rng, names, deep):
+    """Records, equalities and quantified joins of them, joined: few variables, so that a quantifier often takes the number of a variable that has a value."""
+    def part():
+        if deep and rng.random() < 0.5:
+            t = (6 << 29 | rng.choice(names) << 25, random_join(rng, names, deep - 1))
+            return (3 << 29, t) if rng.random() < 0.2 else t
+        term = lambda: rng.choice(names * 4 + [16])
+        t = rng.choice([(record(0, term()),)] + [(record(1, term(), term()),)] * 4 + [(equality(rng.choice(names), term()),)])
+        return (3 << 29, t) if rng.random() < 0.15 else t
+
+    t = part()
+    for _ in range(rng.choice([1, 1, 2, 3])):
+        t = (rng.choice([4, 4, 4, 4, 5]) << 29, *rng.sample([t, part()], 2))
+    return t
+
+
+def random_join_cases(rng, number):
+    for i in range(number):
+        values = rng.choice([[0, 1, 2], [3, 7, 9], [0, 7, 8, 4294967295]])
+        share = rng.choice([0.2, 0.4, 0.6])
+        records = [(0, v, 0, 0, 0) for v in values if rng.random() < 0.7]
+        records += [(1, v, w, 0, 0) for v in values for w in values if rng.random() < share]
+        names = rng.sample(range(16), rng.choice([2, 2, 3]))
+        while tree_size(t := random_join(rng, names, rng.choice([1, 2, 3]))) > 64:
+            pass
+        s, data = Store([1, 2] + [0] * 14, records), words_bytes(random_order(rng, t), [rng.choice(values)])
+        answer_case(f"j{i}", s, records, data, room_for(rng), rng.random() < 0.1)
+
+
 def store_cases():
     s = Store(WIDTHS_S, THREE)
     few = lambda: Store(WIDTHS_S, s.held())
@@ -916,7 +945,7 @@ def compare(seed):
 
 
 def compare_random(batches):
-    kinds = [(random_query_cases, 400), (random_store_cases, 40), (random_verdict_cases, 400), (random_answer_cases, 300), (random_prenex_cases, 100)]
+    kinds = [(random_query_cases, 400), (random_store_cases, 40), (random_verdict_cases, 400), (random_answer_cases, 300), (random_prenex_cases, 100), (random_join_cases, 400)]
     runs = [(make, number, f"batch {seed}", random.Random(seed * len(kinds) + k)) for seed in range(batches) for k, (make, number) in enumerate(kinds)]
     runs += [(make, size, f"{size} nodes", None) for make in (small_verdict_cases, small_answer_cases) for size in range(1, 6)]
     runs += [(large_store_cases, None, "large stores", None), (large_answer_cases, None, "large answers", None)]

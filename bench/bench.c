@@ -1,0 +1,751 @@
+// The engine beside SQLite, on menu-like queries over full stores.
+//
+// Each query stands below as a formula of the calculus, which is packed into document 01's bytes, beside the SQL that asks the same of the same tables. SQLite
+// runs in memory, with an index on every column, and its statements are prepared outside the timing. A time of the engine is that of the whole call: the store
+// is judged, the query read and evaluated, and the rows written. Rows are compared with SQLite's, in their order, and must be equal.
+//
+// There are two stores, both with 256 records and the same joins: in the coarse one measurements are round numbers that recur, in the fine one each is its own.
+//
+// Usage: bench [PART], where only the queries whose name has this part are run. It fails where rows differ or the reach is missed.
+#define _POSIX_C_SOURCE 200809L
+#include <math.h>
+#include <sqlite3.h>
+#include <stdbool.h>
+#include <stdint.h>
+#include <stdio.h>
+#include <stdlib.h>
+#include <string.h>
+#include <time.h>
+
+// The reach: the seconds that any query may take, and the geometric mean over all of them, in times of SQLite.
+static const double LONGEST = 100e-3;
+static const double MEAN = 8.0;
+
+static void die(const char *what, const char *which) {
+    fprintf(stderr, "bench: %s: %s\n", which, what);
+    exit(2);
+}
+
+// ---- The engine -------------------------------------------------------------------------------------------------------------------------------------------
+
+enum { RELATIONS = 16, PLACES = 256, WIDTH = 4, ROOM = 4096 };
+
+// A store in the layout: records strictly ascending by relation and values, with zeros past a relation's width and past the count.
+typedef struct {
+    uint8_t widths[RELATIONS];
+    uint8_t relations[PLACES];
+    uint32_t values[WIDTH * PLACES];
+    size_t count;
+} Store;
+
+typedef struct {
+    uint64_t refusal, place, endless, rows;
+} Reply;
+
+// The entry of crates/bench. It returns the number of rows; or 2^63 for endless; or 2^63 + 256 × number + place for a refusal.
+extern uint64_t palmrummy_find(const uint8_t *widths, const uint8_t *relations, const uint32_t *values, size_t count, const uint8_t *bytes, size_t length,
+                               bool wanted, uint32_t *out, size_t room);
+
+// The rows of a packed query over a store. Nothing else here knows the entry.
+static Reply engine_find(const Store *store, const uint8_t *bytes, size_t length, uint32_t *out) {
+    const uint64_t endless = UINT64_C(1) << 63;
+    uint64_t found = palmrummy_find(store->widths, store->relations, store->values, store->count, bytes, length, false, out, ROOM);
+    if (found == endless) return (Reply){.endless = 1};
+    if (found > endless) return (Reply){.refusal = (found - endless) / 256, .place = found % 256};
+    return (Reply){.rows = found};
+}
+
+// ---- Formulas ---------------------------------------------------------------------------------------------------------------------------------------------
+
+enum { NODES = 64, CONSTANTS = 16, BYTES = 2 + 4 * CONSTANTS + 4 * NODES };
+
+// The kinds of document 01.
+typedef enum { TRUTH, RECORD, EQUALITY, NOT, AND, OR, EXISTS } Kind;
+
+typedef struct {
+    bool constant;
+    uint32_t number;  // of the variable; or the constant itself
+} Term;
+
+typedef struct Formula {
+    Kind kind;
+    uint32_t relation;  // of a record
+    Term terms[WIDTH];  // of a record, or the two of an equality
+    int term_count;
+    uint32_t variable;  // of an exists
+    const struct Formula *left, *right;
+} Formula;
+
+static Formula formulas[4096];
+static size_t formula_count;
+
+static const Formula *new_formula(Formula f) {
+    if (formula_count == sizeof formulas / sizeof formulas[0]) die("too many formulas", "queries");
+    formulas[formula_count] = f;
+    return &formulas[formula_count++];
+}
+
+// The length of a list of arguments, and the arguments as an array.
+#define LISTED(type, ...) (int)(sizeof((type[]){__VA_ARGS__}) / sizeof(type)), (type[]){__VA_ARGS__}
+
+static Term con(uint32_t value) { return (Term){true, value}; }
+
+static const Formula *rel_of(uint32_t relation, int count, const Term *terms) {
+    Formula f = {.kind = RECORD, .relation = relation, .term_count = count};
+    memcpy(f.terms, terms, (size_t)count * sizeof(Term));
+    return new_formula(f);
+}
+#define rel(relation, ...) rel_of(relation, LISTED(Term, __VA_ARGS__))
+
+static const Formula *eq(Term variable, Term term) { return new_formula((Formula){.kind = EQUALITY, .terms = {variable, term}}); }
+
+static const Formula *neg(const Formula *f) { return new_formula((Formula){.kind = NOT, .left = f}); }
+
+// From the left: conj(f, g, h) is (f and g) and h.
+static const Formula *joined(Kind kind, int count, const Formula *const *parts) {
+    const Formula *all = parts[0];
+    for (int i = 1; i < count; i++) all = new_formula((Formula){.kind = kind, .left = all, .right = parts[i]});
+    return all;
+}
+#define conj(...) joined(AND, LISTED(const Formula *, __VA_ARGS__))
+#define disj(...) joined(OR, LISTED(const Formula *, __VA_ARGS__))
+
+// exists(f, x, y): for some x, for some y, f.
+static const Formula *exists_of(const Formula *f, int count, const Term *variables) {
+    while (count > 0) f = new_formula((Formula){.kind = EXISTS, .variable = variables[--count].number, .left = f});
+    return f;
+}
+#define exists(f, ...) exists_of(f, LISTED(Term, __VA_ARGS__))
+
+// every(f, g, x): for all x with f, g; by double negation.
+#define every(f, g, ...) neg(exists(conj(f, neg(g)), __VA_ARGS__))
+
+// ---- Packing ----------------------------------------------------------------------------------------------------------------------------------------------
+
+typedef struct {
+    uint32_t constants[CONSTANTS], nodes[NODES];
+    uint32_t constant_count, node_count;
+} Packing;
+
+static uint32_t pack_term(Packing *p, Term t) {
+    if (!t.constant) return t.number;
+    uint32_t i = 0;
+    while (i < p->constant_count && p->constants[i] != t.number) i++;
+    if (i == CONSTANTS) die("too many constants", "queries");
+    if (i == p->constant_count) p->constants[p->constant_count++] = t.number;
+    return 16 | i;
+}
+
+// The left subtree, then the right, then the parent, whose number is returned.
+static uint32_t pack_node(Packing *p, const Formula *f) {
+    uint32_t left = f->left ? pack_node(p, f->left) : 0;
+    uint32_t right = f->right ? pack_node(p, f->right) : 0;
+    uint32_t word = (uint32_t)f->kind << 29;
+    switch (f->kind) {
+    case TRUTH: break;  // no query here has one
+    case RECORD:
+        word |= f->relation << 25 | (uint32_t)f->term_count << 22;
+        for (int i = 0; i < f->term_count; i++) word |= pack_term(p, f->terms[i]) << (17 - 5 * i);
+        break;
+    case EQUALITY: word |= f->terms[0].number << 25 | pack_term(p, f->terms[1]) << 20; break;
+    case NOT: word |= left << 23; break;
+    case AND:
+    case OR: word |= left << 23 | right << 17; break;
+    case EXISTS: word |= f->variable << 25 | left << 19; break;
+    }
+    if (p->node_count == NODES) die("too many nodes", "queries");
+    p->nodes[p->node_count] = word;
+    return p->node_count++;
+}
+
+static uint8_t *put_word(uint8_t *at, uint32_t word) {
+    for (int shift = 24; shift >= 0; shift -= 8) *at++ = (uint8_t)(word >> shift);
+    return at;
+}
+
+// The packed query of a formula; its length in bytes is returned.
+static size_t pack(const Formula *f, uint8_t *bytes) {
+    Packing p = {.node_count = 0};
+    pack_node(&p, f);
+    uint32_t header = 1u << 12 | p.node_count << 5 | p.constant_count;
+    uint8_t *at = bytes;
+    *at++ = (uint8_t)(header >> 8);
+    *at++ = (uint8_t)header;
+    for (uint32_t i = 0; i < p.constant_count; i++) at = put_word(at, p.constants[i]);
+    for (uint32_t i = 0; i < p.node_count; i++) at = put_word(at, p.nodes[i]);
+    return (size_t)(at - bytes);
+}
+
+// ---- Stores -----------------------------------------------------------------------------------------------------------------------------------------------
+
+// The tables, by the number of their relation.
+enum { FEATURES, JOINTS, WELDS, READINGS, DIGS, BENDS, CREWS, TRAINED, TASKS, REPAIRS, TABLES };
+
+static const struct {
+    const char *name;
+    const char *columns[WIDTH];
+    uint32_t width, records;
+} tables[TABLES] = {
+    [FEATURES] = {"features", {"feature", "joint", "depth", "length"}, 4, 124},
+    [JOINTS] = {"joints", {"joint", "odometer", "wall", "maker"}, 4, 28},
+    [WELDS] = {"welds", {"joint", "weld", "heat"}, 3, 26},
+    [READINGS] = {"readings", {"weld", "value", "day", "sensor"}, 4, 48},
+    [DIGS] = {"digs", {"joint", "day", "crew", "cost"}, 4, 8},
+    [BENDS] = {"bends", {"joint", "angle", "radius"}, 3, 6},
+    [CREWS] = {"crews", {"crew"}, 1, 3},
+    [TRAINED] = {"trained", {"crew", "task"}, 2, 6},
+    [TASKS] = {"tasks", {"task"}, 1, 3},
+    [REPAIRS] = {"repairs", {"feature", "day"}, 2, 4},
+};
+
+typedef struct {
+    uint32_t relation, values[WIDTH];
+} Record;
+
+// The numbers of things.
+static uint32_t crew_number(uint32_t i) { return 1 + i; }
+static uint32_t sensor_number(uint32_t i) { return 5 + i; }
+static uint32_t maker_number(uint32_t i) { return 8 + i; }
+static uint32_t task_number(uint32_t i) { return 11 + i; }
+static uint32_t joint_number(uint32_t i) { return 400 + i; }
+static uint32_t weld_number(uint32_t i) { return 700 + i; }
+static uint32_t feature_number(uint32_t i) { return 1000 + i; }
+
+// A number below n for a column of the i-th record of a table: it looks random, and is the same in every run and for both stores.
+static uint32_t drawn(uint32_t table, uint32_t i, uint32_t column, uint32_t n) {
+    uint32_t h = (table << 16 | i << 4 | column) * 2654435761u;
+    h = (h ^ h >> 15) * 2246822519u;
+    h = (h ^ h >> 13) * 3266489917u;
+    return (h ^ h >> 16) % n;
+}
+
+// A measurement: one of the first n multiples of a step; in the fine store a number that nothing else has.
+static uint32_t measured(bool fine, uint32_t table, uint32_t i, uint32_t column, uint32_t step, uint32_t n) {
+    if (fine) return 100000 + (table << 10 | i << 2 | column) * 7919 % 65536;
+    return step * (1 + drawn(table, i, column, n));
+}
+
+// The i-th record of a table.
+static Record record(bool fine, uint32_t table, uint32_t i) {
+    static const uint32_t dug[] = {3, 5, 5, 9, 14, 17, 22, 26}, bent[] = {2, 5, 9, 16, 21, 26}, repaired[] = {7, 38, 69, 100};
+    static const uint32_t trained[][2] = {{0, 0}, {0, 1}, {0, 2}, {1, 0}, {1, 2}, {2, 1}};
+    uint32_t joints = tables[JOINTS].records, welds = tables[WELDS].records, crews = tables[CREWS].records;
+#define DRAWN(column, n) drawn(table, i, column, n)
+#define MEASURED(column, step, n) measured(fine, table, i, column, step, n)
+    switch (table) {
+    case FEATURES: return (Record){table, {feature_number(i), joint_number(DRAWN(1, joints)), MEASURED(2, 1, 40), MEASURED(3, 2, 25)}};
+    case JOINTS: return (Record){table, {joint_number(i), MEASURED(1, 12, 60), MEASURED(2, 2, 20), maker_number(DRAWN(3, 3))}};
+    case WELDS: return (Record){table, {joint_number(DRAWN(0, joints)), weld_number(i), MEASURED(2, 1, 30)}};
+    case READINGS: return (Record){table, {weld_number(DRAWN(0, welds)), MEASURED(1, 3, 20), MEASURED(2, 1, 28), sensor_number(DRAWN(3, 3))}};
+    case DIGS: return (Record){table, {joint_number(dug[i]), MEASURED(1, 1, 28), crew_number(DRAWN(2, crews)), MEASURED(3, 50, 9)}};
+    case BENDS: return (Record){table, {joint_number(bent[i]), MEASURED(1, 15, 6), MEASURED(2, 3, 9)}};
+    case CREWS: return (Record){table, {crew_number(i)}};
+    case TRAINED: return (Record){table, {crew_number(trained[i][0]), task_number(trained[i][1])}};
+    case TASKS: return (Record){table, {task_number(i)}};
+    default: return (Record){table, {feature_number(repaired[i]), MEASURED(1, 1, 28)}};
+    }
+#undef DRAWN
+#undef MEASURED
+}
+
+static int by_order(const void *a, const void *b) {
+    const Record *x = a, *y = b;
+    if (x->relation != y->relation) return x->relation < y->relation ? -1 : 1;
+    for (int i = 0; i < WIDTH; i++)
+        if (x->values[i] != y->values[i]) return x->values[i] < y->values[i] ? -1 : 1;
+    return 0;
+}
+
+// A full store: the coarse one or the fine one.
+static Store filled(bool fine) {
+    Record records[PLACES];
+    Store store = {.count = 0};
+    for (uint32_t r = 0; r < TABLES; r++) {
+        store.widths[r] = (uint8_t)tables[r].width;
+        for (uint32_t i = 0; i < tables[r].records; i++) {
+            if (store.count == PLACES) die("too many records", tables[r].name);
+            records[store.count++] = record(fine, r, i);
+        }
+    }
+    qsort(records, store.count, sizeof(Record), by_order);
+    for (size_t i = 0; i < store.count; i++) {
+        if (0 < i && by_order(&records[i - 1], &records[i]) == 0) die("a record twice", tables[records[i].relation].name);
+        store.relations[i] = (uint8_t)records[i].relation;
+        memcpy(&store.values[WIDTH * i], records[i].values, sizeof records[i].values);
+    }
+    return store;
+}
+
+static int by_value(const void *a, const void *b) {
+    uint32_t x = *(const uint32_t *)a, y = *(const uint32_t *)b;
+    return (x > y) - (x < y);
+}
+
+static size_t distinct_values(const Store *store) {
+    uint32_t all[WIDTH * PLACES];
+    size_t n = 0, distinct = 0;
+    for (size_t i = 0; i < store->count; i++)
+        for (size_t j = 0; j < store->widths[store->relations[i]]; j++) all[n++] = store->values[WIDTH * i + j];
+    qsort(all, n, sizeof all[0], by_value);
+    for (size_t i = 0; i < n; i++) distinct += i == 0 || all[i - 1] != all[i];
+    return distinct;
+}
+
+// ---- Queries ----------------------------------------------------------------------------------------------------------------------------------------------
+
+typedef struct {
+    const char *name;
+    const Formula *formula;
+    const char *sql;      // its rows; of an endless query a single 1 where it is endless, and 0 where it is not
+    bool columns, endless;
+} Query;
+
+static Query queries[128];
+static size_t query_count;
+
+static void add(Query q) {
+    if (query_count == sizeof queries / sizeof queries[0]) die("too many queries", q.name);
+    queries[query_count++] = q;
+}
+
+// A query with columns; one without, whose SQL has a row where it holds; and an endless one, where SQLite decides whether some row that satisfies the query has
+// a value that no record has: that is what endless means.
+static void ask(const char *name, const Formula *f, const char *sql) { add((Query){name, f, sql, true, false}); }
+static void ask_whether(const char *name, const Formula *f, const char *sql) { add((Query){name, f, sql, false, false}); }
+static void ask_endless(const char *name, const Formula *f, const char *sql) { add((Query){name, f, sql, true, true}); }
+
+// Variables. Columns come in this order; the sentences below bind the last four.
+static const Term A = {false, 0}, B = {false, 1}, C = {false, 2}, D = {false, 3}, E = {false, 4}, F = {false, 5}, G = {false, 6};
+static const Term M = {false, 12}, N = {false, 13}, O = {false, 14}, P = {false, 15};
+
+static const Formula *on_joint(Term feature, Term joint) { return exists(rel(FEATURES, feature, joint, O, P), O, P); }
+static const Formula *has_depth(Term feature, Term depth) { return exists(rel(FEATURES, feature, O, depth, P), O, P); }
+static const Formula *is_joint(Term joint) { return exists(rel(JOINTS, joint, N, O, P), N, O, P); }
+static const Formula *made_by(Term joint, Term maker) { return exists(rel(JOINTS, joint, N, O, maker), N, O); }
+static const Formula *has_weld(Term joint, Term weld) { return exists(rel(WELDS, joint, weld, P), P); }
+static const Formula *has_value(Term weld, Term value) { return exists(rel(READINGS, weld, value, O, P), O, P); }
+static const Formula *is_read(Term weld) { return exists(rel(READINGS, weld, N, O, P), N, O, P); }
+static const Formula *read_by(Term weld, Term sensor) { return exists(rel(READINGS, weld, N, O, sensor), N, O); }
+static const Formula *dug_by(Term joint, Term crew) { return exists(rel(DIGS, joint, N, crew, P), N, P); }
+static const Formula *is_dug(Term joint) { return exists(rel(DIGS, joint, N, O, P), N, O, P); }
+static const Formula *is_bent(Term joint) { return exists(rel(BENDS, joint, O, P), O, P); }
+static const Formula *is_repaired(Term feature) { return exists(rel(REPAIRS, feature, P), P); }
+
+static void plain_lines(void) {
+    ask("features of one joint", rel(FEATURES, A, con(joint_number(9)), B, C),
+        "SELECT DISTINCT feature, depth, length FROM features WHERE joint = 409 ORDER BY 1, 2, 3");
+    ask("all features", rel(FEATURES, A, B, C, D),
+        "SELECT DISTINCT feature, joint, depth, length FROM features ORDER BY 1, 2, 3, 4");
+    ask("depths, joint by joint", exists(rel(FEATURES, M, A, B, N), M, N),
+        "SELECT DISTINCT joint, depth FROM features ORDER BY 1, 2");
+}
+
+static void untouched_lines(void) {
+    ask("features on a joint no dig touched", conj(on_joint(A, B), neg(is_dug(B))),
+        "SELECT DISTINCT feature, joint FROM features f WHERE NOT EXISTS (SELECT 1 FROM digs d WHERE d.joint = f.joint) ORDER BY 1, 2");
+    ask("joints no dig touched, and their features", conj(on_joint(B, A), neg(is_dug(A))),
+        "SELECT DISTINCT joint, feature FROM features f WHERE NOT EXISTS (SELECT 1 FROM digs d WHERE d.joint = f.joint) ORDER BY 1, 2");
+    ask("no dig touched: features only", exists(conj(on_joint(A, B), neg(is_dug(B))), B),
+        "SELECT DISTINCT feature FROM features f WHERE NOT EXISTS (SELECT 1 FROM digs d WHERE d.joint = f.joint) ORDER BY 1");
+    ask("no dig touched: the not first", conj(neg(is_dug(B)), on_joint(A, B)),
+        "SELECT DISTINCT feature, joint FROM features f WHERE NOT EXISTS (SELECT 1 FROM digs d WHERE d.joint = f.joint) ORDER BY 1, 2");
+    ask("unrepaired features on bends", conj(rel(FEATURES, A, B, C, D), is_bent(B), neg(is_repaired(A))),
+        "SELECT DISTINCT feature, joint, depth, length FROM features f WHERE joint IN (SELECT joint FROM bends)"
+        " AND feature NOT IN (SELECT feature FROM repairs) ORDER BY 1, 2, 3, 4");
+}
+
+static void every_lines(void) {
+    ask("joints where every weld has a reading", conj(is_joint(A), every(has_weld(A, B), is_read(B), B)),
+        "SELECT DISTINCT joint FROM joints j WHERE NOT EXISTS (SELECT 1 FROM welds w WHERE w.joint = j.joint"
+        " AND NOT EXISTS (SELECT 1 FROM readings r WHERE r.weld = w.weld)) ORDER BY 1");
+    ask("joints with a weld where every one has", conj(exists(has_weld(A, B), B), every(has_weld(A, B), is_read(B), B)),
+        "SELECT DISTINCT joint FROM welds j WHERE NOT EXISTS (SELECT 1 FROM welds w WHERE w.joint = j.joint"
+        " AND NOT EXISTS (SELECT 1 FROM readings r WHERE r.weld = w.weld)) ORDER BY 1");
+    ask("joints where every feature is repaired", conj(is_joint(A), every(on_joint(B, A), is_repaired(B), B)),
+        "SELECT DISTINCT joint FROM joints j WHERE NOT EXISTS (SELECT 1 FROM features f WHERE f.joint = j.joint"
+        " AND NOT EXISTS (SELECT 1 FROM repairs r WHERE r.feature = f.feature)) ORDER BY 1");
+    ask("features on joints where every weld is read", conj(on_joint(A, B), every(has_weld(B, C), is_read(C), C)),
+        "SELECT DISTINCT feature, joint FROM features f WHERE NOT EXISTS (SELECT 1 FROM welds w WHERE w.joint = f.joint"
+        " AND NOT EXISTS (SELECT 1 FROM readings r WHERE r.weld = w.weld)) ORDER BY 1, 2");
+}
+
+static void pair_lines(void) {
+    ask("pairs on one joint", exists(conj(on_joint(A, C), on_joint(B, C), neg(eq(A, B))), C),
+        "SELECT DISTINCT f.feature, g.feature FROM features f JOIN features g ON g.joint = f.joint WHERE f.feature <> g.feature ORDER BY 1, 2");
+    ask("joints, and pairs on them", conj(on_joint(B, A), on_joint(C, A), neg(eq(B, C))),
+        "SELECT DISTINCT f.joint, f.feature, g.feature FROM features f JOIN features g ON g.joint = f.joint WHERE f.feature <> g.feature"
+        " ORDER BY 1, 2, 3");
+    ask("pairs of one depth on one joint", exists(conj(rel(FEATURES, A, C, D, E), rel(FEATURES, B, C, D, F), neg(eq(A, B))), C, D, E, F),
+        "SELECT DISTINCT f.feature, g.feature FROM features f JOIN features g ON g.joint = f.joint AND g.depth = f.depth WHERE f.feature <> g.feature"
+        " ORDER BY 1, 2");
+    ask("triples of values of one weld",
+        exists(conj(has_value(D, A), has_value(D, B), has_value(D, C), neg(eq(A, B)), neg(eq(A, C)), neg(eq(B, C))), D),
+        "SELECT DISTINCT a.value, b.value, c.value FROM readings a JOIN readings b ON b.weld = a.weld JOIN readings c ON c.weld = a.weld"
+        " WHERE a.value <> b.value AND a.value <> c.value AND b.value <> c.value ORDER BY 1, 2, 3");
+    ask("pairs on bends of one maker",
+        exists(conj(on_joint(A, C), on_joint(B, D), is_bent(C), is_bent(D), made_by(C, E), made_by(D, E), neg(eq(A, B))), C, D, E),
+        "SELECT DISTINCT f.feature, g.feature FROM features f JOIN joints i ON i.joint = f.joint JOIN joints j ON j.maker = i.maker"
+        " JOIN features g ON g.joint = j.joint WHERE f.feature <> g.feature AND i.joint IN (SELECT joint FROM bends)"
+        " AND j.joint IN (SELECT joint FROM bends) ORDER BY 1, 2");
+    ask("welds read with two values", exists(conj(has_value(A, B), has_value(A, C), neg(eq(B, C))), B, C),
+        "SELECT DISTINCT r.weld FROM readings r JOIN readings s ON s.weld = r.weld WHERE r.value <> s.value ORDER BY 1");
+    ask("pairs of bent joints of one maker", exists(conj(is_bent(A), is_bent(B), made_by(A, C), made_by(B, C), neg(eq(A, B))), C),
+        "SELECT DISTINCT a.joint, b.joint FROM joints a JOIN joints b ON b.maker = a.maker WHERE a.joint <> b.joint"
+        " AND a.joint IN (SELECT joint FROM bends) AND b.joint IN (SELECT joint FROM bends) ORDER BY 1, 2");
+}
+
+static void join_lines(void) {
+    ask("feature, joint, weld, value", conj(on_joint(A, B), has_weld(B, C), has_value(C, D)),
+        "SELECT DISTINCT f.feature, f.joint, w.weld, r.value FROM features f JOIN welds w ON w.joint = f.joint JOIN readings r ON r.weld = w.weld"
+        " ORDER BY 1, 2, 3, 4");
+    ask("value, weld, joint, feature", conj(on_joint(D, C), has_weld(C, B), has_value(B, A)),
+        "SELECT DISTINCT r.value, w.weld, w.joint, f.feature FROM features f JOIN welds w ON w.joint = f.joint JOIN readings r ON r.weld = w.weld"
+        " ORDER BY 1, 2, 3, 4");
+    ask("feature, weld, joint, value", conj(on_joint(A, C), has_weld(C, B), has_value(B, D)),
+        "SELECT DISTINCT f.feature, w.weld, f.joint, r.value FROM features f JOIN welds w ON w.joint = f.joint JOIN readings r ON r.weld = w.weld"
+        " ORDER BY 1, 2, 3, 4");
+    ask("dug joint, crew, weld, value", conj(dug_by(A, B), has_weld(A, C), has_value(C, D)),
+        "SELECT DISTINCT d.joint, d.crew, w.weld, r.value FROM digs d JOIN welds w ON w.joint = d.joint JOIN readings r ON r.weld = w.weld"
+        " ORDER BY 1, 2, 3, 4");
+    ask("feature, joint, crew, task", conj(on_joint(A, B), dug_by(B, C), rel(TRAINED, C, D)),
+        "SELECT DISTINCT f.feature, f.joint, d.crew, t.task FROM features f JOIN digs d ON d.joint = f.joint JOIN trained t ON t.crew = d.crew"
+        " ORDER BY 1, 2, 3, 4");
+    ask("task, crew, joint, angle", conj(rel(TRAINED, B, A), dug_by(C, B), exists(rel(BENDS, C, D, P), P)),
+        "SELECT DISTINCT t.task, t.crew, d.joint, b.angle FROM trained t JOIN digs d ON d.crew = t.crew JOIN bends b ON b.joint = d.joint"
+        " ORDER BY 1, 2, 3, 4");
+    ask("maker, sensor over three tables", exists(conj(made_by(C, A), has_weld(C, D), read_by(D, B)), C, D),
+        "SELECT DISTINCT j.maker, r.sensor FROM joints j JOIN welds w ON w.joint = j.joint JOIN readings r ON r.weld = w.weld ORDER BY 1, 2");
+    ask("feature, value over three tables", exists(conj(on_joint(A, C), has_weld(C, D), has_value(D, B)), C, D),
+        "SELECT DISTINCT f.feature, r.value FROM features f JOIN welds w ON w.joint = f.joint JOIN readings r ON r.weld = w.weld ORDER BY 1, 2");
+}
+
+static void division_lines(void) {
+    ask("crews trained for every task", conj(rel(CREWS, A), every(rel(TASKS, B), rel(TRAINED, A, B), B)),
+        "SELECT DISTINCT crew FROM crews c WHERE NOT EXISTS (SELECT 1 FROM tasks t"
+        " WHERE NOT EXISTS (SELECT 1 FROM trained r WHERE r.crew = c.crew AND r.task = t.task)) ORDER BY 1");
+    ask("sensors used on every weld of a bend",
+        conj(exists(read_by(B, A), B), every(exists(conj(is_bent(C), has_weld(C, B)), C), read_by(B, A), B)),
+        "SELECT sensor FROM (SELECT DISTINCT sensor FROM readings) s WHERE NOT EXISTS (SELECT 1 FROM welds w JOIN bends b ON b.joint = w.joint"
+        " WHERE NOT EXISTS (SELECT 1 FROM readings r WHERE r.weld = w.weld AND r.sensor = s.sensor)) ORDER BY 1");
+    ask("joints whose welds every sensor has read",
+        conj(exists(has_weld(A, B), B), every(exists(read_by(C, D), C), exists(conj(has_weld(A, B), read_by(B, D)), B), D)),
+        "SELECT joint FROM (SELECT DISTINCT joint FROM welds) j WHERE NOT EXISTS (SELECT 1 FROM (SELECT DISTINCT sensor FROM readings) s"
+        " WHERE NOT EXISTS (SELECT 1 FROM welds w JOIN readings r ON r.weld = w.weld WHERE w.joint = j.joint AND r.sensor = s.sensor)) ORDER BY 1");
+    ask("crews that can do all that another can",
+        conj(rel(CREWS, A), rel(CREWS, B), neg(eq(A, B)), every(rel(TRAINED, B, C), rel(TRAINED, A, C), C)),
+        "SELECT DISTINCT a.crew, b.crew FROM crews a, crews b WHERE a.crew <> b.crew AND NOT EXISTS (SELECT 1 FROM trained t WHERE t.crew = b.crew"
+        " AND NOT EXISTS (SELECT 1 FROM trained u WHERE u.crew = a.crew AND u.task = t.task)) ORDER BY 1, 2");
+}
+
+static void union_lines(void) {
+    ask("joints bent or dug", disj(is_bent(A), is_dug(A)),
+        "SELECT joint FROM bends UNION SELECT joint FROM digs ORDER BY 1");
+    ask("features repaired or on a bend", conj(on_joint(A, B), disj(is_repaired(A), is_bent(B))),
+        "SELECT DISTINCT feature, joint FROM features WHERE feature IN (SELECT feature FROM repairs) OR joint IN (SELECT joint FROM bends) ORDER BY 1, 2");
+    ask("features, welds and crews of a joint", disj(on_joint(B, A), has_weld(A, B), dug_by(A, B)),
+        "SELECT joint, feature FROM features UNION SELECT joint, weld FROM welds UNION SELECT joint, crew FROM digs ORDER BY 1, 2");
+    ask("days of a reading, a dig or a repair",
+        disj(exists(rel(READINGS, M, N, A, P), M, N, P), exists(rel(DIGS, M, A, O, P), M, O, P), exists(rel(REPAIRS, M, A), M)),
+        "SELECT day FROM readings UNION SELECT day FROM digs UNION SELECT day FROM repairs ORDER BY 1");
+}
+
+static void one_lines(void) {
+    ask("joints with exactly one weld", exists(conj(has_weld(A, B), neg(exists(conj(has_weld(A, C), neg(eq(C, B))), C))), B),
+        "SELECT DISTINCT joint FROM welds w WHERE NOT EXISTS (SELECT 1 FROM welds v WHERE v.joint = w.joint AND v.weld <> w.weld) ORDER BY 1");
+    ask("joints with exactly one feature, and it", conj(on_joint(B, A), neg(exists(conj(on_joint(C, A), neg(eq(C, B))), C))),
+        "SELECT DISTINCT joint, feature FROM features f"
+        " WHERE NOT EXISTS (SELECT 1 FROM features g WHERE g.joint = f.joint AND g.feature <> f.feature) ORDER BY 1, 2");
+    ask("features whose depth is on one joint only",
+        conj(on_joint(A, B), neg(exists(conj(has_depth(A, C), has_depth(D, C), on_joint(D, E), neg(eq(E, B))), C, D, E))),
+        "SELECT DISTINCT feature, joint FROM features f"
+        " WHERE NOT EXISTS (SELECT 1 FROM features g WHERE g.depth = f.depth AND g.joint <> f.joint) ORDER BY 1, 2");
+    ask("readings that are the only one of a weld",
+        conj(rel(READINGS, A, B, C, D), neg(exists(conj(rel(READINGS, A, E, F, G), neg(conj(eq(E, B), eq(F, C), eq(G, D)))), E, F, G))),
+        "SELECT DISTINCT weld, value, day, sensor FROM readings r WHERE NOT EXISTS (SELECT 1 FROM readings s WHERE s.weld = r.weld"
+        " AND NOT (s.value = r.value AND s.day = r.day AND s.sensor = r.sensor)) ORDER BY 1, 2, 3, 4");
+}
+
+static void yes_no_lines(void) {
+    ask_whether("is some dug joint without a weld?", exists(conj(is_dug(A), neg(exists(has_weld(A, B), B))), A),
+                "SELECT 1 WHERE EXISTS (SELECT 1 FROM digs d WHERE NOT EXISTS (SELECT 1 FROM welds w WHERE w.joint = d.joint))");
+    ask_whether("is every feature on a known joint?", every(on_joint(A, B), is_joint(B), A, B),
+                "SELECT 1 WHERE NOT EXISTS (SELECT 1 FROM features f WHERE NOT EXISTS (SELECT 1 FROM joints j WHERE j.joint = f.joint))");
+    ask_whether("is this joint bent?", is_bent(con(joint_number(16))),
+                "SELECT 1 WHERE EXISTS (SELECT 1 FROM bends WHERE joint = 416)");
+    ask_whether("is every feature of a bend repaired?", every(exists(conj(is_bent(B), on_joint(A, B)), B), is_repaired(A), A),
+                "SELECT 1 WHERE NOT EXISTS (SELECT 1 FROM bends b JOIN features f ON f.joint = b.joint"
+                " WHERE NOT EXISTS (SELECT 1 FROM repairs r WHERE r.feature = f.feature))");
+    ask_whether("do depth and length tell features apart?",
+                neg(exists(conj(rel(FEATURES, A, E, C, D), rel(FEATURES, B, F, C, D), neg(eq(A, B))), A, B, C, D, E, F)),
+                "SELECT 1 WHERE NOT EXISTS (SELECT 1 FROM features f JOIN features g ON g.depth = f.depth AND g.length = f.length"
+                " WHERE f.feature <> g.feature)");
+    ask_whether("are three of one depth on one joint?",
+                exists(conj(rel(FEATURES, A, E, D, N), rel(FEATURES, B, E, D, O), rel(FEATURES, C, E, D, P), neg(eq(A, B)), neg(eq(A, C)), neg(eq(B, C))),
+                       A, B, C, D, E, N, O, P),
+                "SELECT 1 WHERE EXISTS (SELECT 1 FROM features f JOIN features g ON g.joint = f.joint AND g.depth = f.depth"
+                " JOIN features h ON h.joint = f.joint AND h.depth = f.depth"
+                " WHERE f.feature <> g.feature AND f.feature <> h.feature AND g.feature <> h.feature)");
+    ask_whether("has each maker a weld read by each sensor?",
+                every(conj(exists(made_by(C, A), C), exists(read_by(D, B), D)), exists(conj(made_by(C, A), has_weld(C, D), read_by(D, B)), C, D), A, B),
+                "SELECT 1 WHERE NOT EXISTS (SELECT 1 FROM (SELECT DISTINCT maker FROM joints) m, (SELECT DISTINCT sensor FROM readings) s"
+                " WHERE NOT EXISTS (SELECT 1 FROM joints j JOIN welds w ON w.joint = j.joint JOIN readings r ON r.weld = w.weld"
+                " WHERE j.maker = m.maker AND r.sensor = s.sensor))");
+}
+
+// Not safe-range, but with finitely many rows over these stores.
+static void unsafe_lines(void) {
+    ask("unsafe: equal to a bent joint", conj(eq(A, B), is_bent(A)),
+        "SELECT DISTINCT joint, joint FROM bends ORDER BY 1, 2");
+    ask("unsafe: an equality denied twice", neg(disj(neg(on_joint(A, B)), neg(eq(B, C)))),
+        "SELECT DISTINCT feature, joint, joint FROM features ORDER BY 1, 2, 3");
+    ask("unsafe: exists over an or", exists(disj(has_weld(A, B), is_bent(A)), B),
+        "SELECT joint FROM welds UNION SELECT joint FROM bends ORDER BY 1");
+    ask("unsafe: joints that something is no weld of", conj(is_joint(A), exists(neg(has_weld(A, B)), B)),
+        "SELECT DISTINCT joint FROM joints ORDER BY 1");
+    ask("unsafe: for all, as an implication", conj(rel(CREWS, A), neg(exists(neg(disj(neg(rel(TASKS, B)), rel(TRAINED, A, B))), B))),
+        "SELECT DISTINCT crew FROM crews c WHERE NOT EXISTS (SELECT 1 FROM tasks t"
+        " WHERE NOT EXISTS (SELECT 1 FROM trained r WHERE r.crew = c.crew AND r.task = t.task)) ORDER BY 1");
+    ask("unsafe: the same feature or one beside it",
+        conj(on_joint(A, con(joint_number(5))), disj(eq(A, B), exists(conj(on_joint(A, C), on_joint(B, C)), C))),
+        "SELECT DISTINCT f.feature, g.feature FROM features f JOIN features g ON g.joint = f.joint WHERE f.joint = 405 ORDER BY 1, 2");
+    ask("unsafe: four columns, two equalities first", conj(eq(C, A), eq(D, B), rel(TRAINED, A, B)),
+        "SELECT DISTINCT crew, task, crew, task FROM trained ORDER BY 1, 2, 3, 4");
+}
+
+// A table of one number, n, that none of the tables has whose columns are listed. One such number stands for all: the SQL of an endless query gives it to a
+// column.
+#define FRESH(columns) "WITH fresh (n) AS (SELECT 1 + max(" columns ")) "
+#define GREATEST(column, table) "(SELECT max(" column ") FROM " table ")"
+#define OF_FEATURES GREATEST("feature", "features") ", " GREATEST("joint", "features") ", " GREATEST("depth", "features") ", " GREATEST("length", "features")
+#define OF_WELDS GREATEST("joint", "welds") ", " GREATEST("weld", "welds") ", " GREATEST("heat", "welds")
+#define OF_READINGS GREATEST("weld", "readings") ", " GREATEST("value", "readings") ", " GREATEST("day", "readings") ", " GREATEST("sensor", "readings")
+#define OF_DIGS GREATEST("joint", "digs") ", " GREATEST("day", "digs") ", " GREATEST("crew", "digs") ", " GREATEST("cost", "digs")
+#define OF_BENDS GREATEST("joint", "bends") ", " GREATEST("angle", "bends") ", " GREATEST("radius", "bends")
+#define OF_TRAINED GREATEST("crew", "trained") ", " GREATEST("task", "trained")
+
+static void endless_lines(void) {
+    ask_endless("endless: no weld of an undug joint, 3 columns", conj(on_joint(A, B), neg(is_dug(B)), neg(has_weld(B, C))),
+                FRESH(OF_FEATURES ", " OF_DIGS ", " OF_WELDS)
+                "SELECT EXISTS (SELECT 1 FROM fresh, features f WHERE NOT EXISTS (SELECT 1 FROM digs d WHERE d.joint = f.joint)"
+                " AND NOT EXISTS (SELECT 1 FROM welds w WHERE w.joint = f.joint AND w.weld = n))");
+    ask_endless("endless: neither weld nor skill, 3 columns", conj(neg(has_weld(A, B)), neg(rel(TRAINED, B, C))),
+                FRESH(OF_WELDS ", " OF_TRAINED)
+                "SELECT EXISTS (SELECT 1 FROM fresh WHERE NOT EXISTS (SELECT 1 FROM welds w WHERE w.joint = n AND w.weld = n)"
+                " AND NOT EXISTS (SELECT 1 FROM trained t WHERE t.crew = n AND t.task = n))");
+    ask_endless("endless: a weld, or two equals, 3 columns", conj(is_bent(A), neg(is_dug(A)), disj(has_weld(A, B), eq(B, C))),
+                FRESH(OF_BENDS ", " OF_DIGS ", " OF_WELDS)
+                "SELECT EXISTS (SELECT 1 FROM fresh, bends b WHERE NOT EXISTS (SELECT 1 FROM digs d WHERE d.joint = b.joint)"
+                " AND (EXISTS (SELECT 1 FROM welds w WHERE w.joint = b.joint AND w.weld = n) OR n = n))");
+    ask_endless("endless: what no feature is, 4 columns", neg(rel(FEATURES, A, B, C, D)),
+                FRESH(OF_FEATURES)
+                "SELECT EXISTS (SELECT 1 FROM fresh"
+                " WHERE NOT EXISTS (SELECT 1 FROM features f WHERE f.feature = n AND f.joint = n AND f.depth = n AND f.length = n))");
+    ask_endless("endless: a join and a not, 4 columns", conj(on_joint(A, B), has_weld(B, C), neg(has_value(C, D))),
+                FRESH(OF_FEATURES ", " OF_WELDS ", " OF_READINGS)
+                "SELECT EXISTS (SELECT 1 FROM fresh, features f JOIN welds w ON w.joint = f.joint"
+                " WHERE NOT EXISTS (SELECT 1 FROM readings r WHERE r.weld = w.weld AND r.value = n))");
+    ask_endless("endless: one side of a union, 4 columns",
+                disj(conj(on_joint(A, B), has_weld(B, C), eq(D, C)), conj(dug_by(A, B), is_bent(A), neg(eq(C, D)))),
+                FRESH(OF_FEATURES ", " OF_WELDS ", " OF_DIGS ", " OF_BENDS)
+                "SELECT EXISTS (SELECT 1 FROM fresh, features f JOIN welds w ON w.joint = f.joint WHERE w.weld = n)"
+                " OR EXISTS (SELECT 1 FROM fresh, digs d JOIN bends b ON b.joint = d.joint WHERE n <> d.joint)");
+    ask_endless("endless: a for-all of nothing, 4 columns",
+                conj(rel(WELDS, A, B, C), every(exists(rel(READINGS, B, D, O, E), O), rel(BENDS, A, D, E), E)),
+                FRESH(OF_WELDS ", " OF_READINGS ", " OF_BENDS)
+                "SELECT EXISTS (SELECT 1 FROM fresh, welds w WHERE NOT EXISTS (SELECT 1 FROM readings r WHERE r.weld = w.weld AND r.value = n"
+                " AND NOT EXISTS (SELECT 1 FROM bends b WHERE b.joint = w.joint AND b.angle = n AND b.radius = r.sensor)))");
+}
+
+static void menu(void) {
+    plain_lines();
+    untouched_lines();
+    every_lines();
+    pair_lines();
+    join_lines();
+    division_lines();
+    union_lines();
+    one_lines();
+    yes_no_lines();
+    unsafe_lines();
+    endless_lines();
+}
+
+// ---- SQLite -----------------------------------------------------------------------------------------------------------------------------------------------
+
+static void run_sql(sqlite3 *db, const char *sql) {
+    if (sqlite3_exec(db, sql, NULL, NULL, NULL) != SQLITE_OK) die(sqlite3_errmsg(db), sql);
+}
+
+// A table with an index on each column.
+static void create(sqlite3 *db, uint32_t r) {
+    char sql[256];
+    int n = snprintf(sql, sizeof sql, "CREATE TABLE %s (", tables[r].name);
+    for (uint32_t j = 0; j < tables[r].width; j++)
+        n += snprintf(sql + n, sizeof sql - (size_t)n, "%s%s INTEGER NOT NULL", j ? ", " : "", tables[r].columns[j]);
+    snprintf(sql + n, sizeof sql - (size_t)n, ")");
+    run_sql(db, sql);
+    for (uint32_t j = 0; j < tables[r].width; j++) {
+        snprintf(sql, sizeof sql, "CREATE INDEX %s_%s ON %s (%s)", tables[r].name, tables[r].columns[j], tables[r].name, tables[r].columns[j]);
+        run_sql(db, sql);
+    }
+}
+
+static void insert(sqlite3 *db, uint32_t r, const uint32_t *values) {
+    char sql[256];
+    int n = snprintf(sql, sizeof sql, "INSERT INTO %s VALUES (", tables[r].name);
+    for (uint32_t j = 0; j < tables[r].width; j++) n += snprintf(sql + n, sizeof sql - (size_t)n, "%s%u", j ? ", " : "", values[j]);
+    snprintf(sql + n, sizeof sql - (size_t)n, ")");
+    run_sql(db, sql);
+}
+
+// The records of a store, in memory, with the statistics that SQLite plans by.
+static sqlite3 *opened(const Store *store) {
+    sqlite3 *db;
+    if (sqlite3_open(":memory:", &db) != SQLITE_OK) die("cannot be opened", "SQLite");
+    for (uint32_t r = 0; r < TABLES; r++) create(db, r);
+    for (size_t i = 0; i < store->count; i++) insert(db, store->relations[i], &store->values[WIDTH * i]);
+    run_sql(db, "ANALYZE");
+    return db;
+}
+
+// All rows of a prepared statement, written as the engine writes them, as far as there is room; their number is returned.
+static size_t sqlite_find(sqlite3_stmt *statement, uint32_t *out) {
+    int k = sqlite3_column_count(statement);
+    size_t rows = 0, at = 0;
+    while (sqlite3_step(statement) == SQLITE_ROW) {
+        rows++;
+        for (int j = 0; j < k && at < ROOM; j++) out[at++] = (uint32_t)sqlite3_column_int64(statement, j);
+    }
+    sqlite3_reset(statement);
+    return rows;
+}
+
+// ---- Timing -----------------------------------------------------------------------------------------------------------------------------------------------
+
+// One query over one store, ready to run.
+typedef struct {
+    const Store *store;
+    uint8_t bytes[BYTES];
+    size_t length;
+    sqlite3_stmt *statement;
+    uint32_t out[ROOM];
+} Work;
+
+static void by_engine(Work *w) { engine_find(w->store, w->bytes, w->length, w->out); }
+static void by_sqlite(Work *w) { sqlite_find(w->statement, w->out); }
+
+static double now(void) {
+    struct timespec t;
+    clock_gettime(CLOCK_MONOTONIC, &t);
+    return (double)t.tv_sec + 1e-9 * (double)t.tv_nsec;
+}
+
+// Seconds of one run, over 200 runs or 20 ms.
+static double batch(void (*run)(Work *), Work *w) {
+    double start = now(), spent = 0;
+    int n = 0;
+    do {
+        run(w);
+        n++;
+        spent = now() - start;
+    } while (n < 200 && spent < 20e-3);
+    return spent / n;
+}
+
+static int by_time(const void *a, const void *b) {
+    double x = *(const double *)a, y = *(const double *)b;
+    return (x > y) - (x < y);
+}
+
+// Seconds of one run of each: the median of several batches, taken in turn, so that a busy machine slows both down alike.
+static void timed(Work *w, double *engine, double *sqlite) {
+    enum { BATCHES = 7 };
+    double mine[BATCHES], theirs[BATCHES];
+    for (int i = 0; i < 3; i++) {
+        by_engine(w);
+        by_sqlite(w);
+    }
+    for (int b = 0; b < BATCHES; b++) {
+        mine[b] = batch(by_engine, w);
+        theirs[b] = batch(by_sqlite, w);
+    }
+    qsort(mine, BATCHES, sizeof mine[0], by_time);
+    qsort(theirs, BATCHES, sizeof theirs[0], by_time);
+    *engine = mine[BATCHES / 2];
+    *sqlite = theirs[BATCHES / 2];
+}
+
+// ---- The report -------------------------------------------------------------------------------------------------------------------------------------------
+
+typedef struct {
+    double logarithms, longest;
+    int queries, faults;
+} Total;
+
+static void count_query(Total *total, double engine, double sqlite) {
+    total->logarithms += log(engine / sqlite);
+    total->queries++;
+    if (engine > total->longest) total->longest = engine;
+}
+
+static double mean_of(const Total *total) { return exp(total->logarithms / total->queries); }
+
+// Whether both give the same: the same rows in the same order, or both endless.
+static bool agree(const Query *q, Work *w, Reply *reply) {
+    uint32_t theirs[ROOM];
+    size_t rows = sqlite_find(w->statement, theirs);
+    *reply = engine_find(w->store, w->bytes, w->length, w->out);
+    if (reply->refusal) return false;
+    if (q->endless) return rows == 1 && reply->endless == theirs[0];
+    if (reply->endless || reply->rows != rows) return false;
+    size_t numbers = q->columns ? rows * (size_t)sqlite3_column_count(w->statement) : 0;
+    return numbers <= ROOM && memcmp(w->out, theirs, numbers * sizeof theirs[0]) == 0;
+}
+
+static void report(const Query *q, const Store *store, sqlite3 *db, Total *total) {
+    Work w = {.store = store};
+    w.length = pack(q->formula, w.bytes);
+    if (sqlite3_prepare_v2(db, q->sql, -1, &w.statement, NULL) != SQLITE_OK) die(sqlite3_errmsg(db), q->name);
+    Reply reply;
+    bool same = agree(q, &w, &reply);
+    double engine, sqlite;
+    timed(&w, &engine, &sqlite);
+    sqlite3_finalize(w.statement);
+    char rows[32] = "endless";
+    if (reply.refusal) snprintf(rows, sizeof rows, "refused %u", (unsigned)reply.refusal);
+    else if (!reply.endless) snprintf(rows, sizeof rows, "%u", (unsigned)reply.rows);
+    printf("  %-46s %8s %10.1f %10.1f %8.2f%s\n", q->name, rows, 1e6 * engine, 1e6 * sqlite, engine / sqlite, same ? "" : "  DIFFERS");
+    fflush(stdout);
+    total->faults += !same;
+    count_query(total, engine, sqlite);
+}
+
+// All queries whose name has the part, over one store.
+static void report_store(bool fine, const char *part, Total *all) {
+    Store store = filled(fine);
+    sqlite3 *db = opened(&store);
+    Total total = {0};
+    printf("%zu records, %zu distinct values\n", store.count, distinct_values(&store));
+    printf("  %-46s %8s %10s %10s %8s\n", "query", "rows", "engine us", "SQLite us", "ratio");
+    for (size_t i = 0; i < query_count; i++)
+        if (strstr(queries[i].name, part)) report(&queries[i], &store, db, &total);
+    if (total.queries == 0) die("no such query", part);
+    printf("  %d queries: geometric mean %.2f times SQLite, longest %.3f ms\n\n", total.queries, mean_of(&total), 1e3 * total.longest);
+    sqlite3_close(db);
+    all->logarithms += total.logarithms;
+    all->queries += total.queries;
+    all->faults += total.faults;
+    if (total.longest > all->longest) all->longest = total.longest;
+}
+
+int main(int argc, char **argv) {
+    Total all = {0};
+    menu();
+    for (int fine = 0; fine < 2; fine++) report_store(fine, argc > 1 ? argv[1] : "", &all);
+    bool reached = all.longest <= LONGEST && (argc > 1 || mean_of(&all) <= MEAN);  // the mean is judged over all queries only
+    printf("Over both: geometric mean %.2f times SQLite (at most %.0f), longest %.3f ms (at most %.0f).\n", mean_of(&all), MEAN, 1e3 * all.longest,
+           1e3 * LONGEST);
+    printf("For endless queries SQLite decides whether a row with a number that no record has is there.\n");
+    printf("Rows %s SQLite's; the reach is %s.\n", all.faults ? "DIFFER from" : "equal", reached ? "kept" : "MISSED");
+    return all.faults == 0 && reached ? 0 : 1;
+}

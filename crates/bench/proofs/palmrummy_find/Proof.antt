@@ -1,0 +1,69 @@
+-- The entry meets its contract: what was found, as one number.
+use borrow.Author.Needs.{needs}
+use Rattle.bench.specs.Entry.Laws.{coded-refused, coded-endless, coded-rows}
+use Rattle.bench.proofs.palmrummy_find.Statement.{statement}
+use Rattle.bench.proofs.palmrummy_find.Tie as tie
+use Rattle.bench.proofs.palmrummy_find.Reads as reads
+use Rattle.bench.proofs.palmrummy_find.Lts as lts
+use Rattle.answer.proofs.find.Reads as find-reads
+
+find-requires : tie.Need-find-requires
+find-requires c κs = search needs
+
+enum-known-answer : tie.Need-enum-known-answer
+enum-known-answer c = search needs
+
+cast-result : tie.Need-cast-result
+cast-result c = search needs
+
+mul-result : tie.Need-mul-result
+mul-result c = search needs
+
+add-result : tie.Need-add-result
+add-result c = search needs
+
+cast-result-2 : tie.Need-cast-result-2
+cast-result-2 c = search needs
+
+add-result-2 : tie.Need-add-result-2
+add-result-2 c = search needs
+
+same-length : tie.Need-same-length
+same-length c = search needs
+
+returns : tie.Need-returns
+returns c = let a = c .before in coded-refused (a .before .before .before .before .find .ensures) _ _ (a .answer .given .1)
+
+enum-told : tie.Need-enum-told
+enum-told c = search needs
+
+same-length-2 : tie.Need-same-length-2
+same-length-2 c = search needs
+
+returns-2 : tie.Need-returns-2
+returns-2 c = let a = c .before in coded-endless (a .before .before .before .before .find .ensures) (a .enum-told .given .1) (c .if1 .taken)
+
+same-length-3 : tie.Need-same-length-3
+same-length-3 c = search needs
+
+returns-3 : tie.Need-returns-3
+returns-3 c = let a = c .before in coded-rows (a .before .before .before .before .find .ensures) (a .enum-told .given .1) (c .if1 .left)
+
+pub palmrummy-find-spec : {M : Type 1} → statement M
+palmrummy-find-spec =
+    tie.close
+    (tie.spec
+    find-requires
+    enum-known-answer
+    cast-result
+    mul-result
+    add-result
+    cast-result-2
+    add-result-2
+    same-length
+    returns
+    enum-told
+    same-length-2
+    returns-2
+    same-length-3
+    returns-3)
