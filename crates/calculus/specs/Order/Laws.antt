@@ -1,16 +1,18 @@
 -- Laws of ascending lists: an ascending list is settled by its members, and `sort` gives the one that has the members of a list.
 -- Of lists without an order: a list with no repeats is counted by its members.
-use Prim.Native.Nat.{ℕ, suc, _+_, _<_, _≤_, zero-le, suc-le-suc}
+use Prim.Native.Nat.{ℕ, zero, suc, _+_, _<_, _≤_, zero-le, suc-le-suc}
 use native.Mathlib.Nat.{lt-irrefl, lt-trans, le-antisymm}
 use native.Mathlib.Omega.{arith}
 use mathlib.Core.Path.{_≡_, refl, sym, ap, subst, subst⁻¹, _∙_}
 use mathlib.Core.Logic.{_↔_, Iff·rfl, Iff·trans, _⊎_, inl, inr, _≢_}
 use mathlib.Core.Bool.{Bool, true, false, not, cond}
 use mathlib.Core.List.{List, [], _∷_}
-use lib.ListN.{length}
+use lib.ListN.{length, getD}
+use lib.Seq.{take-all}
 use lib.Dec.{T, ltb}
 use Rattle.calculus.specs.Sets.{In, here, there, _⊆_, select}
 use Rattle.calculus.specs.Sets.Laws.{in-nil, in-rest, subset-cons, same-cons, subset-swap, in-select, from-select}
+use Rattle.calculus.specs.Lists.Laws.{in-take}
 use Rattle.calculus.specs.Reflects.{Reflects, holds, fails, reflected, reflects, reflects-T, reflects-map, reflects-and, reflects-or, reflects-eqb, reflects-ltb}
 use Rattle.calculus.specs.Order.{StrictOrder, Ascending, nothing, before, insert, sort, lexicographic, leads, is-ascending}
 
@@ -291,4 +293,11 @@ module _ {A : Type 0} (below : A → A → Bool) where
       known z (here e) = subst⁻¹ (λ u. In u ys) e i
       known z (there j) = j
 
--- ---- the test for ≤
+-- ---- places
+
+-- A later element of an ascending list is above.
+pub ascending-at : {A : Type 0} (below : A → A → Bool) (d : A) {xs : List A} → Ascending below xs → (m n : ℕ) → m < n → n < length xs → T (below (getD xs m d) (getD xs n d))
+ascending-at below d nothing m n l h = absurd (omega arith)
+ascending-at below d (before {x} {xs} k a) m zero l h = absurd (omega arith)
+ascending-at below d (before {x} {xs} k a) zero (suc n) l h = k (getD xs n d) (subst (In (getD xs n d)) (take-all (length xs) xs (omega arith)) (in-take d xs (length xs) n (omega arith) (omega arith)))
+ascending-at below d (before {x} {xs} k a) (suc m) (suc n) l h = ascending-at below d a m n (omega arith) (omega arith)

@@ -160,11 +160,12 @@ reply-answer Done cs ns = refl
 reply-answer (Refused n p) cs ns = refl
 
 module _ (ws bs : List ℕ) where
-  cause : (a : Answer) → read-of ws bs .answer ≡ a → first-cause (read-checks ws bs) ≡ a
-  cause a h = sym (reply-answer (first-cause (read-checks ws bs)) (constants-of bs) (nodes-of bs)) ∙ h
+  -- The reader's answer is the first of its causes.
+  pub read-cause : (a : Answer) → read-of ws bs .answer ≡ a → first-cause (read-checks ws bs) ≡ a
+  read-cause a h = sym (reply-answer (first-cause (read-checks ws bs)) (constants-of bs) (nodes-of bs)) ∙ h
 
   reply-is : (a : Answer) → read-of ws bs .answer ≡ a → read-of ws bs ≡ read-reply a (constants-of bs) (nodes-of bs)
-  reply-is a h = ap (λ b. read-reply b (constants-of bs) (nodes-of bs)) (cause a h)
+  reply-is a h = ap (λ b. read-reply b (constants-of bs) (nodes-of bs)) (read-cause a h)
 
   pub read-done : read-of ws bs .answer ≡ Done → read-of ws bs ≡ accepted (constants-of bs) (nodes-of bs)
   read-done h = reply-is Done h
@@ -173,7 +174,7 @@ module _ (ws bs : List ℕ) where
   read-refused n p h = reply-is (Refused n p) h
 
   checks-clear : read-of ws bs .answer ≡ Done → AllClear (read-checks ws bs)
-  checks-clear h = first-cause-done (read-checks ws bs) (cause Done h)
+  checks-clear h = first-cause-done (read-checks ws bs) (read-cause Done h)
 
   pub read-widths : read-of ws bs .answer ≡ Done → T (widths-fit ws)
   read-widths h = confirmed (reflects-T (widths-fit ws)) (when-clear (not (widths-fit ws)) (checks-clear h .0))
@@ -185,7 +186,7 @@ module _ (ws bs : List ℕ) where
   read-pool h = ap (λ r. pool (r .query)) (read-done h) ∙ pool-of (constants-of bs) (nodes-of bs)
 
   pub read-headed : read-of ws bs .answer ≡ Done → Headed bs
-  read-headed h = header-done ws bs Done (sym (first-done (header-checks ws bs) (tree-checks ws (count-of-constants bs) (nodes-of bs) ++ column-checks (nodes-of bs)) (cause Done h))) refl
+  read-headed h = header-done ws bs Done (sym (first-done (header-checks ws bs) (tree-checks ws (count-of-constants bs) (nodes-of bs) ++ column-checks (nodes-of bs)) (read-cause Done h))) refl
 
   pub read-columns : read-of ws bs .answer ≡ Done → read-of ws bs .columns ≡ columns-of (columns (formula (read-of ws bs .query)))
   read-columns h = ap (λ r. r .columns) (read-done h) ∙ ap (λ φ. columns-of (columns φ)) (sym (read-formula h))
