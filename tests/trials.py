@@ -1,12 +1,12 @@
 #!/usr/bin/env python3
 """Cases for the program crates/trials, and what document 01 says of each: an account of the reader and of the tables that shares nothing with the engine.
-That of the verdict is in verdicts.py, that of answers in answers.py.
+That of the verdict is in verdicts.py, that of answers in answers.py, that of a run of the standing list in ledger.py.
 
 trials.py             compares crates/trials/stdin and crates/trials/stdout with what this account gives; exit status 1 where they differ
 trials.py --write     writes both files
-trials.py --random N  runs the built program on N batches of random queries, verdicts, stores and answers, on the verdicts of all formulas of at most five nodes
-                      over seven leaves, on the answers of all such formulas over six leaves and six stores, and on answers of many rows, and compares; exit
-                      status 1 where they differ
+trials.py --random N  runs the built program on N batches of random queries, verdicts, stores, answers and runs, on the verdicts of all formulas of at most
+                      five nodes over seven leaves, on the answers of all such formulas over six leaves and six stores, and on answers of many rows, and
+                      compares; exit status 1 where they differ
 """
 import math
 import pathlib
@@ -16,6 +16,7 @@ import subprocess
 import sys
 
 import answers
+import ledger
 import verdicts
 
 # ---- queries, from document 01, "The packed query"
@@ -184,12 +185,17 @@ def query_text(reply):
     return text + " nodes" + "".join(f" {w:08x}" for w in nodes)
 
 
-def store_text(s):
+def sum_of(numbers):
+    """A sum that tells lists of numbers apart."""
     h = 7
-    for i, place in enumerate(s.places):
-        for v in ([s.widths[i]] if i < 16 else []) + list(place):
-            h = h % 1000003 * 31 + v
-    text = f" count {s.count} sum {h}"
+    for v in numbers:
+        h = h % 1000003 * 31 + v
+    return h
+
+
+def store_text(s):
+    numbers = (v for i, place in enumerate(s.places) for v in ([s.widths[i]] if i < 16 else []) + list(place))
+    text = f" count {s.count} sum {sum_of(numbers)}"
     if s.count <= 4:
         text += "".join(" | " + " ".join(map(str, p)) for p in s.held())
     return text
@@ -280,10 +286,8 @@ def answer_case(name, s, given, data, room, safe_wanted=False, expect=None):
     elif rows is not None:
         text = f" rows {len(rows)}" + "".join(f" {v}" for v in numbers)
     assert expect is None or text == expect, (name, text, expect)
-    h = 7
-    for i in range(len(numbers), room):
-        h = h % 1000003 * 31 + 7 * i + 1
-    case("a", name, struct.pack(">BH", safe_wanted, room) + pack_store(s, given) + bytes(data), text + f" rest {h}")
+    rest = sum_of(7 * i + 1 for i in range(len(numbers), room))
+    case("a", name, struct.pack(">BH", safe_wanted, room) + pack_store(s, given) + bytes(data), text + f" rest {rest}")
 
 
 def words_bytes(nodes, constants=(), header=None):
@@ -768,6 +772,200 @@ def random_join_cases(rng, number):
         answer_case(f"j{i}", s, records, data, room_for(rng), rng.random() < 0.1)
 
 
+# ---- runs of a standing list; a call is ("p" or "r", a record, the lengths of the two buffers)
+
+def list_text(held):
+    k, variables = held["columns"]
+    text = f" columns {k}" + "".join(f" {x}" for x in variables) + (" endless" if held["endless"] else "")
+    places = sum_of(v for p in held["places"] for v in p)
+    return text + f" rows {held['rows']} {places} counts" + "".join(f" {n}" for n in held["counts"])
+
+
+def buffer_text(rows, room):
+    """A sum over a buffer of so many numbers, with the rows at its front."""
+    numbers = [v for row in rows for v in row]
+    assert len(numbers) <= room
+    return f" {sum_of(numbers + [7 * i + 1 for i in range(len(numbers), room)])}"
+
+
+def pack_list(held, given):
+    (k, variables), counts = held["columns"], held["counts"]
+    head = struct.pack(">H4BHHB3Q", k, *variables, held["rows"], given, held["endless"], *counts)
+    return head + b"".join(struct.pack(">4I", *p) for p in held["places"][:given])
+
+
+def refusal_before(s, data):
+    """The first of the causes 1 to 10, with its place; and the query as read."""
+    reading = read(list(data), s.widths)
+    number = s.judge()
+    return ((number, 0) if number else reading[1:] if reading[0] == "refused" else (0, 0)), reading[1:]
+
+
+def run_text(s, data, calls, handed):
+    """What the program writes of a run: the list at its beginning, and for each call the answer, the store, the list and the buffers after it."""
+    refused, query = refusal_before(s, data)
+    account = None
+    if handed is None:
+        if not refused[0]:
+            account = ledger.Ledger(query, s.widths, s.held())
+            refused = (17, 0) if len(account.rows) > 512 else refused
+        if refused[0]:
+            return answer_text(*refused) + list_text(ledger.NO_LIST)
+    elif not refused[0]:
+        account = ledger.Ledger.of(query, s.widths, s.held(), handed)
+        refused = (0, 0) if ledger.suits(handed, query[0]) else (12, 0)
+    held = account.list() if handed is None else handed
+    text = list_text(held)
+    for kind, r, first, second in calls:
+        number, joined, left = (refused[0], [], []) if refused[0] else account.enter(kind, r, first, second, fits)
+        if not number:
+            s, held = Store(s.widths, account.records), account.list()
+        text += f" ;{answer_text(number, refused[1])} {len(joined)} {len(left)}" + store_text(s) + list_text(held)
+        text += " buffers" + buffer_text(joined, first) + buffer_text(left, second)
+    return text
+
+
+def run_case(name, s, given, data, calls, handed=None, rows_given=None, expect=None):
+    """expect: the answers of the calls, in order: numbers of causes, or pairs of rows joined and left."""
+    text = run_text(s, data, calls, handed)
+    if expect is not None:
+        told = [part.split()[:3] for part in text.split(" ;")[1:]]
+        got = [int(words[1]) if words[0] == "refused" else (int(words[1]), int(words[2])) for words in told]
+        assert got == expect, (name, got, expect)
+    body = struct.pack(">BH", handed is not None, len(data)) + pack_store(s, given) + bytes(data)
+    if handed is not None:
+        body += pack_list(handed, handed["rows"] if rows_given is None else rows_given)
+    case("o", name, body + b"".join(c[0].encode() + pack_record(c[1]) + struct.pack(">HH", *c[2:]) for c in calls), text)
+
+
+def opened(name, records, nodes, calls, expect=None, constants=(), widths=WIDTHS_S):
+    run_case(name, Store(widths, records), records, words_bytes(nodes, constants), calls, expect=expect)
+
+
+def handed_in(name, records, data, held, calls, expect, rows_given=None, widths=WIDTHS_S):
+    run_case(name, Store(widths, records), records, data, calls, held, rows_given, expect)
+
+
+def named_run_cases():
+    seven, eight, nine = (1, 7, 0, 0, 0), (1, 8, 0, 0, 0), (1, 9, 0, 0, 0)
+    put, out = (lambda r, a=9, b=9: ("p", r, a, b)), (lambda r, a=9, b=9: ("r", r, a, b))
+    # rows joined and left, and every cause of a change
+    opened("a list of the worked query", THREE, NODES, [put(nine), out(nine), put((0, 8, 1, 0, 0)), out((0, 8, 1, 0, 0)), out(seven)], [(0, 1), (1, 0), (1, 0), (0, 1), (1, 0)])
+    opened("13 to 16, 18, 19", THREE, NODES, [put((2, 0, 0, 0, 0)), out((16, 0, 0, 0, 0)), put(seven), out(eight), put((0, 8, 1, 0, 0), 1), put((0, 8, 1, 0, 0), 2, 0), put(nine, 0, 1), put(nine, 0, 2)], [13, 13, 14, 16, 18, (1, 0), 19, (0, 1)])
+    # endless and back
+    unbound = [R1, equality(1, 1), both(0, 1)]
+    opened("endless and back", [], unbound, [put(seven, 0, 0), put(eight, 0, 0), out(seven, 0, 0), out(eight, 0, 0)], [(0, 0)] * 4)
+    turning = [R1, some(0, 0), record(0, 0, 1), no(1), both(2, 3), R1, either(4, 5)]  # 0(x,y) and no 1, or 1(x): with a 1 it is endless
+    opened("rows leave to endless, and come back", THREE[:2], turning, [put(seven, 0, 3), put(seven, 0, 4), out(seven, 3, 0), out(seven, 4, 0)], [19, (0, 2), 18, (2, 0)])
+    opened("no columns", [], [R1, some(0, 0)], [put(seven, 0, 0), put(eight, 0, 0), out(seven, 0, 0), out(eight, 0, 0)], [(1, 0), (0, 0), (0, 0), (0, 1)])
+    opened("opening: 3", THREE, [], [put(nine)], [])
+    # a list that is handed in
+    one = ledger.list_of([0, 1], [(9, 3)], False, 1, 0, 0)
+    near = dict(one, counts=(0, 2 ** 64 - 1, 2 ** 64 - 2))
+    handed_in("17: a count past 64 bits", THREE, WORKED, near, [put((0, 8, 1, 0, 0), 0, 0), put(nine), out(nine), put(nine)], [17, (0, 1), 17, 14])
+    far = dict(one, counts=(2 ** 64 - 1, 0, 2 ** 64 - 2))
+    handed_in("the greatest count at opening", THREE, WORKED, far, [put((0, 8, 1, 0, 0)), put(nine), out((0, 8, 1, 0, 0))], [(1, 0), (0, 1), 17])
+    wrong = ledger.list_of([0, 1], [(0, 0), (5, 5), (9, 3)], False, 3, 0, 0)
+    handed_in("rows that are not the query's", THREE, WORKED, wrong, [out(eight), put((0, 8, 1, 0, 0), 2, 4), out((0, 8, 1, 0, 0))], [16, (1, 2), (0, 1)])
+    handed_in("an endless list of a finite query", THREE, WORKED, dict(one, endless=True, rows=0, places=[(0, 0, 0, 0)] * 512, counts=(0, 5, 5)), [put((0, 8, 1, 0, 0))], [(2, 0)])
+    for name, held in {
+        "other columns": ledger.list_of([0, 2], [(9, 3)], False, 1, 0, 0),
+        "a column less": ledger.list_of([0], [(9,)], False, 1, 0, 0),
+        "5 columns": dict(one, columns=(5, (0, 1, 2, 3))),
+        "a value past the columns": dict(one, places=[(9, 3, 0, 1)] + one["places"][1:]),
+        "a place past the rows": dict(one, places=one["places"][:1] + [(0, 0, 0, 4)] + one["places"][2:]),
+        "a variable past the columns": dict(one, columns=(2, (0, 1, 0, 7))),
+        "rows not ascending": ledger.list_of([0, 1], [(9, 3), (9, 2)], False, 2, 0, 0),
+        "a row twice": ledger.list_of([0, 1], [(9, 3), (9, 3)], False, 2, 0, 0),
+        "counts that don't add up": dict(one, counts=(1, 1, 0)),
+        "counts that add up modulo 2^64": dict(one, counts=(2 ** 64 - 1, 2, 0)),
+        "endless with rows": dict(one, endless=True),
+        "513 rows": dict(one, rows=513, counts=(513, 0, 0)),
+    }.items():
+        handed_in(f"12: {name}", THREE, WORKED, held, [put((2, 0, 0, 0, 0)), out(seven)], [12, 12], 3)
+    handed_in("1 before 12", THREE, b"", dict(one, rows=600), [put(seven)], [1], 1, [9] * 16)
+    handed_in("7 before 12", THREE, nodes_with(n3=both(2, 2)), dict(one, rows=600), [put(seven)], [7], 1)
+
+
+def large_run_cases():
+    """512 rows and 513: of a product of 16 and 32 values, with single rows beside."""
+    widths = [1, 1, 2] + [0] * 13
+    sides = [(0, v, 0, 0, 0) for v in range(16)] + [(1, v, 0, 0, 0) for v in range(31)]
+    product = words_bytes([record(0, 0), record(1, 1), both(0, 1), record(2, 0, 1), either(2, 3)])
+    calls = [("p", (1, 31, 0, 0, 0), 31, 0), ("p", (1, 31, 0, 0, 0), 32, 0), ("p", (2, 50, 50, 0, 0), 0, 0), ("p", (2, 3, 3, 0, 0), 0, 0)]
+    calls += [("r", (1, 0, 0, 0, 0), 0, 31), ("r", (1, 0, 0, 0, 0), 0, 32), ("p", (2, 50, 50, 0, 0), 2, 0), ("p", (1, 0, 0, 0, 0), 0, 0)]
+    run_case("512 rows, and no more", Store(widths, sides), sides, product, calls, expect=[18, (16, 0), 17, (0, 0), 19, (0, 16), (1, 0), 17])
+    full = sides + [(1, 31, 0, 0, 0)]
+    run_case("opened with 512 rows", Store(widths, full), full, product, [("p", (2, 50, 50, 0, 0), 0, 0)], expect=[17])
+    over = sorted(full + [(2, 50, 50, 0, 0)])
+    run_case("opening: 17 at 513 rows", Store(widths, over), over, product, [("r", (2, 50, 50, 0, 0), 0, 0)], expect=[])
+    cube = [(0, v, 0, 0, 0) for v in range(5)]
+    four = words_bytes(joined([record(0, x) for x in range(4)]))
+    grows = [("r", cube[4], 9, 2048), ("p", cube[4], 4095, 0), ("r", cube[3], 0, 699), ("r", cube[3], 0, 2048), ("p", cube[3], 699, 9), ("p", cube[3], 2048, 9)]
+    run_case("opening: 17 at 625 rows of 4 columns", Store([1] + [0] * 15, cube), cube, four, grows, expect=[])
+    run_case("256 rows of 4 columns, and back", Store([1] + [0] * 15, cube[:4]), cube[:4], four, grows[1:], expect=[17, 19, (0, 175), 18, (175, 0)])
+    singles = [(0, v, 0, 0, 0) for v in range(256)]
+    every = words_bytes([record(0, 0)])
+    run_case("256 records, all rows", Store([1] + [0] * 15, singles), singles, every, [("p", (0, 256, 0, 0, 0), 9, 9), ("r", singles[200], 9, 1), ("p", (0, 256, 0, 0, 0), 1, 0), ("p", singles[200], 9, 9)], expect=[15, (0, 1), (1, 0), 15])
+
+
+def random_list(rng, columns, values):
+    """A list in the layout, of whatever rows; now and then one that is not."""
+    rows = sorted({tuple(rng.choice(values) for _ in columns) for _ in range(rng.choice([0, 1, 3, 10]))})
+    left = rng.choice([0, 5, 2 ** 64 - 1 - rng.randrange(8), rng.randrange(2 ** 64)])
+    opening = rng.choice([0, left, rng.randrange(left + len(rows) + 1)])
+    counts = opening, left + len(rows) - opening, left
+    if max(counts) >= 2 ** 64:
+        counts = len(rows), 0, 0
+    held = ledger.list_of(columns, rows, not rows and rng.random() < 0.3, *counts)
+    if rng.random() < 0.05:
+        held["counts"] = counts[0], counts[1] ^ 1, counts[2]
+    if rng.random() < 0.05:
+        held["places"][rng.randrange(512)] = (0, 0, 0, 1)
+    return held
+
+
+def turning_query(rng, values):
+    """Rows over the values of relation 0; and endless while some record 1(v,v), or 2(v,c,v), is held."""
+    t = random_tree(rng, rng.choice([1, 3, 6]), [0, 1])
+    for x in (0, 1):
+        t = (4 << 29, (record(0, x),), t)
+    some_loop = (6 << 29 | 2 << 25, (rng.choice([record(1, 2, 2), record(2, 2, 16, 2)]),))
+    return words_bytes(random_order(rng, (5 << 29, t, (4 << 29, some_loop, (3 << 29, (record(0, rng.choice([0, 1])),))))), [rng.choice(values), 9])
+
+
+def random_run(rng, i, long):
+    values = rng.choice([[0, 1], [7, 9], [0, 7, 4294967295], [1, 7, 8, 9]])
+    widths = [1, 2, 3, 4] + [0] * 12
+    record_of = lambda r: (r, *(rng.choice(values) if k <= r else 0 for k in range(4)))
+    records = sorted({record_of(rng.randrange(4)) for _ in range(rng.choice([0, 2, 5, 10]))})
+    data = random_query(rng, values)
+    several = lambda query: len(found(Store(widths, records), query, False)[1] or []) > 1
+    if rng.random() < 0.6:
+        data = next(filter(several, (random_query(rng, values) for _ in range(20))), data)
+    elif rng.random() < 0.6:
+        data = turning_query(rng, values)
+    reading = read(list(data), widths)
+    named = [w >> 25 & 15 for w in reading[3] if w >> 29 == 1] if reading[0] == "accepted" else []
+    calls, held = [], set(records)  # about those held: a call may be refused
+    for _ in range(long):
+        r = record_of(rng.choice(named)) if named and rng.random() < 0.8 else record_of(rng.randrange(4))
+        if rng.random() < 0.03:
+            r = rng.choice([(7, 0, 0, 0, 0), (200, 0, 0, 0, 0), (0, 1, 1, 0, 0)])
+        kind = rng.choice("pr") if rng.random() < 0.1 else "r" if r in held else "p"
+        room = lambda: rng.choice([0, 1, 2, 3, 4, 8, 20, 100, 400])
+        calls.append((kind, r, room(), room()))
+        held ^= {r}
+    handed = random_list(rng, reading[1], values) if reading[0] == "accepted" and rng.random() < 0.3 else None
+    # where the list is handed in, every place is: one past the rows may be set
+    run_case(f"o{i}", Store(widths, records), records, data, calls, handed, 512)
+
+
+def random_run_cases(rng, number):
+    for i in range(number):
+        random_run(rng, i, rng.choice([20, 100, 400]))
+
+
 def store_cases():
     s = Store(WIDTHS_S, THREE)
     few = lambda: Store(WIDTHS_S, s.held())
@@ -876,6 +1074,7 @@ def stored_cases():
     named_query_cases()
     named_verdict_cases()
     named_answer_cases()
+    named_run_cases()
     store_cases()
     fill_cases()
     random_verdict_cases(random.Random(20261115), 40)
@@ -945,11 +1144,12 @@ def compare(seed):
 
 
 def compare_random(batches):
-    kinds = [(random_query_cases, 400), (random_store_cases, 40), (random_verdict_cases, 400), (random_answer_cases, 300), (random_prenex_cases, 100), (random_join_cases, 400)]
+    kinds = [(random_query_cases, 400), (random_store_cases, 40), (random_verdict_cases, 400), (random_answer_cases, 300), (random_prenex_cases, 100), (random_join_cases, 400), (random_run_cases, 6)]
     runs = [(make, number, f"batch {seed}", random.Random(seed * len(kinds) + k)) for seed in range(batches) for k, (make, number) in enumerate(kinds)]
     runs += [(make, size, f"{size} nodes", None) for make in (small_verdict_cases, small_answer_cases) for size in range(1, 6)]
-    runs += [(large_store_cases, None, "large stores", None), (large_answer_cases, None, "large answers", None)]
+    runs += [(large_store_cases, None, "large stores", None), (large_answer_cases, None, "large answers", None), (large_run_cases, None, "large lists", None)]
     differ, ran, of = 0, {}, {" safe": 0, " endless rest": 0, " rows": 0, " refused 18": 0}
+    calls = {" ; done 0 0": 0, " ; done": 0, " ;": 0}
     for make, number, name, rng in runs:
         CASES.clear()
         make(*(word for word in (rng, number) if word is not None))
@@ -957,9 +1157,13 @@ def compare_random(batches):
         ran[make.__name__] = ran.get(make.__name__, 0) + len(CASES)
         for _, wanted in CASES:
             for text in of:
-                of[text] += text in wanted
+                of[text] += text in wanted and " ;" not in wanted
+            for text in calls:
+                calls[text] += wanted.count(text)
     print(f"trials: {', '.join(f'{n} {name}' for name, n in ran.items())}")
     print(f"trials: {of[' safe']} verdicts safe; {of[' rows']} answers listed, {of[' endless rest']} endless, {of[' refused 18']} without room; {differ} differ")
+    moved = calls[" ; done"] - calls[" ; done 0 0"]
+    print(f"trials: {calls[' ;']} calls on standing lists, {calls[' ; done']} accepted, {moved} with rows that joined or left")
     return 1 if differ else 0
 
 

@@ -1,4 +1,4 @@
-// Runs the calls of the crates tables, query, verdict and answer on the cases of standard input, and writes a line for each: its name, and the reply.
+// Runs the calls of the crates tables, query, verdict, answer and standing on the cases of standard input, and writes a line for each: its name, and the reply.
 //
 // A case is a kind, the length of its name (1 byte), the length of its body (2 bytes, high byte first), the name and the body. Kinds:
 // q reads a query: the body is sixteen widths and the query's bytes. v gives the verdict on it.
@@ -8,7 +8,12 @@
 // l fills a store from a lent list: the same, with eight records.
 // a answers a query: the body is whether safe-range answers are wanted (1 byte), the length of the buffer (2 bytes, at most 8,192), a store as above, and the
 //   query's bytes. The reply ends with a sum over the numbers of the buffer past the rows.
+// o is a run of a standing list: the body is whether the list is handed in (1 byte), the length of the query (2 bytes), a store as above, the query's bytes, the
+//   list if it is handed in, and the calls. A list is the number of its columns (2 bytes), four variables (1 byte each), the number of its rows and of those that
+//   follow (2 bytes each), the endless mark (1 byte), three counts (8 bytes each), and the rows, 16 bytes each; places that don't follow are zero. A call is p or
+//   r, a record of 17 bytes, and the lengths of the two buffers (2 bytes each, at most 8,192).
 mod lend;
+mod runs;
 
 ghost use Prim.Native.Nat.{_≤_, _<_};
 use answer::Found;
@@ -417,6 +422,7 @@ fn run(kind: u8, body: &[u8]) {
         b'f' => run_fill(body),
         b'l' => run_lent_fill(body),
         b'a' => run_answer(body),
+        b'o' => runs::run(body),
         _ => {}
     }
 }

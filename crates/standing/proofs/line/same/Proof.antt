@@ -1,0 +1,146 @@
+-- `standing::line::same` meets its contract: each test that fails leaves sameness to the values after it.
+use borrow.Author.Needs.{needs}
+use Rattle.standing.proofs.Judging.{same-first, same-second, same-third, same-fourth}
+use Rattle.standing.proofs.line.same.Statement.{statement}
+use Rattle.standing.proofs.line.same.Tie as tie
+
+mul-if1 : tie.Need-mul-if1
+mul-if1 c = search needs
+
+mul-if1-2 : tie.Need-mul-if1-2
+mul-if1-2 c = search needs
+
+element-copy-out-if1 : tie.Need-element-copy-out-if1
+element-copy-out-if1 c = search needs
+
+mul-if1-3 : tie.Need-mul-if1-3
+mul-if1-3 c = search needs
+
+mul-if1-4 : tie.Need-mul-if1-4
+mul-if1-4 c = search needs
+
+element-copy-out-if1-2 : tie.Need-element-copy-out-if1-2
+element-copy-out-if1-2 c = search needs
+
+returns : tie.Need-returns
+returns c = let s = c .before .before .before .args in same-first (s .xs .now) (s .i) (s .ys .now) (s .j) (c .if1 .taken)
+
+mul-if2 : tie.Need-mul-if2
+mul-if2 c = search needs
+
+add-if2 : tie.Need-add-if2
+add-if2 c = search needs
+
+mul-if2-2 : tie.Need-mul-if2-2
+mul-if2-2 c = search needs
+
+element-copy-out-if2 : tie.Need-element-copy-out-if2
+element-copy-out-if2 c = search needs
+
+mul-if2-3 : tie.Need-mul-if2-3
+mul-if2-3 c = search needs
+
+add-if2-2 : tie.Need-add-if2-2
+add-if2-2 c = search needs
+
+mul-if2-4 : tie.Need-mul-if2-4
+mul-if2-4 c = search needs
+
+element-copy-out-if2-2 : tie.Need-element-copy-out-if2-2
+element-copy-out-if2-2 c = search needs
+
+returns-2 : tie.Need-returns-2
+returns-2 c = let s = c .before .before .before .before .before .before .args in same-second (s .xs .now) (s .i) (s .ys .now) (s .j) (c .before .before .before .if1 .left) (c .if2 .taken)
+
+mul-if3 : tie.Need-mul-if3
+mul-if3 c = search needs
+
+add-if3 : tie.Need-add-if3
+add-if3 c = search needs
+
+mul-if3-2 : tie.Need-mul-if3-2
+mul-if3-2 c = search needs
+
+element-copy-out-if3 : tie.Need-element-copy-out-if3
+element-copy-out-if3 c = search needs
+
+mul-if3-3 : tie.Need-mul-if3-3
+mul-if3-3 c = search needs
+
+add-if3-2 : tie.Need-add-if3-2
+add-if3-2 c = search needs
+
+mul-if3-4 : tie.Need-mul-if3-4
+mul-if3-4 c = search needs
+
+element-copy-out-if3-2 : tie.Need-element-copy-out-if3-2
+element-copy-out-if3-2 c = search needs
+
+returns-3 : tie.Need-returns-3
+returns-3 c = let s = c .before .before .before .before .before .before .before .before .before .args in same-third (s .xs .now) (s .i) (s .ys .now) (s .j) (c .before .before .before .before .before .before .if1 .left) (c .before .before .before .if2 .left) (c .if3 .taken)
+
+mul-result : tie.Need-mul-result
+mul-result c = search needs
+
+add-result : tie.Need-add-result
+add-result c = search needs
+
+mul-result-2 : tie.Need-mul-result-2
+mul-result-2 c = search needs
+
+element-copy-out-result : tie.Need-element-copy-out-result
+element-copy-out-result c = search needs
+
+mul-result-3 : tie.Need-mul-result-3
+mul-result-3 c = search needs
+
+add-result-2 : tie.Need-add-result-2
+add-result-2 c = search needs
+
+mul-result-4 : tie.Need-mul-result-4
+mul-result-4 c = search needs
+
+element-copy-out-result-2 : tie.Need-element-copy-out-result-2
+element-copy-out-result-2 c = search needs
+
+returns-4 : tie.Need-returns-4
+returns-4 c = let s = c .before .before .before .before .before .before .before .before .before .before .before .args in same-fourth (s .xs .now) (s .i) (s .ys .now) (s .j) (c .before .before .before .before .before .before .before .before .if1 .left) (c .before .before .before .before .before .if2 .left) (c .before .before .if3 .left)
+
+pub same-spec : {M : Type 1} → statement M
+same-spec =
+    tie.close
+    (tie.spec
+    mul-if1
+    mul-if1-2
+    element-copy-out-if1
+    mul-if1-3
+    mul-if1-4
+    element-copy-out-if1-2
+    returns
+    mul-if2
+    add-if2
+    mul-if2-2
+    element-copy-out-if2
+    mul-if2-3
+    add-if2-2
+    mul-if2-4
+    element-copy-out-if2-2
+    returns-2
+    mul-if3
+    add-if3
+    mul-if3-2
+    element-copy-out-if3
+    mul-if3-3
+    add-if3-2
+    mul-if3-4
+    element-copy-out-if3-2
+    returns-3
+    mul-result
+    add-result
+    mul-result-2
+    element-copy-out-result
+    mul-result-3
+    add-result-2
+    mul-result-4
+    element-copy-out-result-2
+    returns-4)

@@ -1,0 +1,135 @@
+-- The replies of opening, put and removal: document 01, "Rows, endless and listed", and the causes that each meets. Definitions only; the laws are in
+-- Change/Laws.antt.
+use Prim.Native.Nat.{ℕ, _+_}
+use mathlib.Core.Bool.{true, false, cond}
+use mathlib.Core.List.{List, [], _∷_, _++_}
+use lib.ListN.{length, drop}
+use lib.Dec.{T}
+use Rattle.calculus.specs.Generators.{columns}
+use Rattle.calculus.specs.Rows.{Row, Answers, endless, listed, only-in}
+use Rattle.causes.specs.declared.Answer.{Answer}
+use Rattle.causes.specs.declared.Answer.the-variants.{Done, Refused}
+use Rattle.causes.specs.Causes.{Check, check, first-cause, when}
+use Rattle.tables.specs.declared.Record.{Record}
+use Rattle.tables.specs.declared.Store.{Store}
+use Rattle.tables.specs.Store.{held, store-of, store-checks}
+use Rattle.query.specs.declared.Query.{Query}
+use Rattle.query.specs.declared.Reading.{Reading}
+use Rattle.query.specs.Reading.{formula, read-of, read-checks}
+use Rattle.answer.specs.Listing.{numbers}
+use Rattle.answer.specs.Reply.{answers-to, query-read}
+use Rattle.standing.specs.declared.View.{View}
+use Rattle.standing.specs.declared.Current.{Current}
+use Rattle.standing.specs.declared.Opened.{Opened}
+use Rattle.standing.specs.declared.Change.{Change}
+use Rattle.standing.specs.View.{rows-in, stored, kept, mark, view-of, suits}
+use Rattle.standing.specs.Checks.{Kind, view-checks, record-checks, records-after, is-over, report-checks}
+pub mod Laws
+pub mod Stores
+pub mod Calls
+pub mod Turn
+
+-- ---- opening
+
+-- Causes 1 to 10.
+abbrev pub begin-checks : Store → List ℕ → List Check
+begin-checks s bs = store-checks s ++ read-checks (s .widths) bs
+
+-- Cause 17.
+abbrev pub over-checks : Answers → List Check
+over-checks found = check 17 (when (is-over (length (kept found)))) ∷ []
+
+-- A refusal hands back a list without columns and rows.
+abbrev pub refused-opening : ℕ → ℕ → Opened
+refused-opening n p = record { answer = Refused n p; view = view-of [] (listed []) 0 0 0 }
+
+abbrev pub opening-reply : Answer → List ℕ → Answers → Opened
+opening-reply Done cols found = record { answer = Done; view = view-of cols found (length (kept found)) 0 0 }
+opening-reply (Refused n p) cols found = refused-opening n p
+
+-- The reply to the opening of a list over s for the query in the bytes bs.
+abbrev pub opened-of : Store → List ℕ → Opened
+opened-of s bs =
+    let q : Query = query-read s bs in
+    let found : Answers = answers-to s q in
+    opening-reply (first-cause (begin-checks s bs ++ over-checks found)) (columns (formula q)) found
+
+-- ---- a change
+
+-- The rows that joined and those that left, where the list v comes to hold what is found.
+abbrev pub joining : View → Answers → List Row
+joining v found = only-in (kept found) (rows-in v)
+
+abbrev pub leaving : View → Answers → List Row
+leaving v found = only-in (rows-in v) (kept found)
+
+-- Causes 17 to 19, where the buffers have the lengths a and b.
+abbrev pub turn-checks : View → List ℕ → Answers → ℕ → ℕ → List Check
+turn-checks v cols found a b =
+    let j : ℕ = length (joining v found) in
+    let l : ℕ = length (leaving v found) in
+    report-checks (is-over (length (kept found))) (v .opening ∷ (v .joined + j) ∷ (v .left + l) ∷ []) (length cols) j l a b
+
+-- Rows at the front of a buffer, the rest of it unaltered.
+abbrev pub fronted : List Row → List ℕ → List ℕ
+fronted rows buffer = numbers rows ++ drop (length (numbers rows)) buffer
+
+-- A refusal leaves the store and the list.
+abbrev pub refusal : ℕ → ℕ → Store → View → Change
+refusal n p s v = record { answer = Refused n p; joined = 0; left = 0; store = s; view = v }
+
+-- It leaves both buffers too; else the store is t, and the list holds what is found, with its counts added to.
+abbrev pub turn-reply : Answer → Store → Store → View → List ℕ → Answers → List ℕ → List ℕ → Change × (List ℕ × List ℕ)
+turn-reply Done s t v cols found first second =
+    let j : ℕ = length (joining v found) in
+    let l : ℕ = length (leaving v found) in (
+      record { answer = Done; joined = j; left = l; store = t; view = view-of cols found (v .opening) (v .joined + j) (v .left + l) },
+      (fronted (joining v found) first, fronted (leaving v found) second),
+    )
+turn-reply (Refused n p) s t v cols found first second = (refusal n p s v, (first, second))
+
+-- The store after the change of one record.
+abbrev pub store-after : Kind → Store → Record → Store
+store-after kind s r = store-of (s .widths) (records-after kind r (held s))
+
+-- Causes 1 to 10, and 12.
+abbrev pub ready-checks : Store → View → List ℕ → List Check
+ready-checks s v bs = begin-checks s bs ++ view-checks v (columns (formula (query-read s bs)))
+
+-- The reply to a put or removal of the record r, for the query in the bytes bs, over the store s and its list v; and the buffers after it.
+abbrev pub change-of : Kind → Store → View → List ℕ → Record → List ℕ → List ℕ → Change × (List ℕ × List ℕ)
+change-of kind s v bs r first second =
+    let q : Query = query-read s bs in
+    let t : Store = store-after kind s r in
+    let found : Answers = answers-to t q in
+    turn-reply
+    (first-cause (ready-checks s v bs ++ (record-checks kind (s .widths) (held s) r ++ turn-checks v (columns (formula q)) found (length first) (length second))))
+    s t v (columns (formula q)) found first second
+
+-- ---- how the code goes about it
+
+-- Rows found anew: whether they are over 512, and else the rows and the mark.
+abbrev pub current : Answers → Current
+current found =
+    cond
+    (is-over (length (kept found)))
+    (record { over = true; endless = false; rows = stored [] })
+    (record { over = false; endless = mark found; rows = stored (kept found) })
+
+-- The query as read, with the first of the causes 1 to 10.
+abbrev pub begun : Store → List ℕ → Reading
+begun s bs = record { answer = first-cause (begin-checks s bs); query = read-of (s .widths) bs .query; columns = read-of (s .widths) bs .columns }
+
+-- The same, and cause 12.
+abbrev pub readied : Store → View → List ℕ → Reading
+readied s v bs = record { answer = first-cause (ready-checks s v bs); query = read-of (s .widths) bs .query; columns = read-of (s .widths) bs .columns }
+
+-- The list suits the columns of an accepted query.
+abbrev pub Suits : View → Query → Type 0
+Suits v q = T (suits v (columns (formula q)))
+
+-- The reply to a change that came to the store t.
+abbrev pub settled : Store → Store → View → Query → List ℕ → List ℕ → Change × (List ℕ × List ℕ)
+settled s t v q first second =
+    let found : Answers = answers-to t q in
+    turn-reply (first-cause (turn-checks v (columns (formula q)) found (length first) (length second))) s t v (columns (formula q)) found first second

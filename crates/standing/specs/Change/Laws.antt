@@ -1,0 +1,134 @@
+-- Laws of the calls: what is known of a store and a query that pass the causes 1 to 10, and the replies in each case that the code comes to.
+use Prim.Native.Nat.{ℕ, _-_, _≤_, _<_, _^_}
+use mathlib.Core.Path.{_≡_, refl, sym, ap, subst⁻¹, _∙_}
+use mathlib.Core.Bool.{Bool, true, false, not, cond}
+use mathlib.Core.List.{List, [], _∷_, _++_}
+use lib.ListN.{length, getD, replicate}
+use lib.Seq.{take-append-seam}
+use borrow.Author.Tests.{ltb-false}
+use Rattle.calculus.specs.Generators.{columns}
+use Rattle.calculus.specs.Rows.{Answers}
+use Rattle.causes.specs.declared.Answer.{Answer}
+use Rattle.causes.specs.declared.Answer.the-variants.{Done, Refused}
+use Rattle.causes.specs.Causes.{Check, check, first-cause, when}
+use Rattle.causes.specs.Causes.Laws.{then-done, then-refused, first-done, first-clear}
+use Rattle.tables.specs.declared.Store.{Store}
+use Rattle.tables.specs.Store.{store-checks, judgement}
+use Rattle.tables.specs.Store.Laws.{judged-layout}
+use Rattle.query.specs.declared.Reading.{Reading}
+use Rattle.query.specs.Decoding.{root}
+use Rattle.query.specs.Reading.{max-columns, constants-of, nodes-of, count-of-constants, header-checks, tree-checks, column-checks, read-checks, read-reply, formula, columns-of, read-of}
+use Rattle.query.specs.Accepted.{Accepted}
+use Rattle.query.specs.Accepted.Laws.{read-cause, read-formula, read-columns, reading-accepted}
+use Rattle.verdict.specs.Generating.{variables-in}
+use Rattle.answer.specs.Reply.{answers-to, query-read, Evaluable}
+use Rattle.standing.specs.declared.View.{View}
+use Rattle.standing.specs.View.{suits}
+use Rattle.standing.specs.Checks.{view-checks}
+use Rattle.standing.specs.Change.{begin-checks, over-checks, refused-opening, opening-reply, opened-of, ready-checks, current, begun, readied}
+use Rattle.standing.specs.Change.Turn.{too-many, all-kept, over-is}
+
+-- ---- causes 1 to 10 are not met
+
+module _ (s : Store) (bs : List ℕ) (done : first-cause (begin-checks s bs) ≡ Done) where
+  -- The store is in the layout.
+  pub begun-judged : judgement s ≡ Done
+  begun-judged = first-done (store-checks s) (read-checks (s .widths) bs) done
+
+  -- The query is accepted.
+  reads : first-cause (read-checks (s .widths) bs) ≡ Done
+  reads = sym (then-done (store-checks s) (read-checks (s .widths) bs) begun-judged) ∙ done
+
+  pub begun-read : read-of (s .widths) bs .answer ≡ Done
+  begun-read = ap (λ a. read-reply a (constants-of bs) (nodes-of bs) .answer) reads
+
+  -- It has at most four columns.
+  column-check : first-cause (column-checks (nodes-of bs)) ≡ Done
+  column-check =
+      let trees : List Check = tree-checks (s .widths) (count-of-constants bs) (nodes-of bs) in
+      let rest : List Check = trees ++ column-checks (nodes-of bs) in
+      let after : first-cause rest ≡ Done = sym (then-done (header-checks (s .widths) bs) rest (first-done (header-checks (s .widths) bs) rest reads)) ∙ reads in
+      sym (then-done trees (column-checks (nodes-of bs)) (first-done trees (column-checks (nodes-of bs)) after)) ∙ after
+
+  pub begun-few : length (columns (formula (query-read s bs))) ≤ 4
+  begun-few = subst⁻¹ (λ φ. length (columns φ) ≤ max-columns) (read-formula (s .widths) bs begun-read) (ltb-false max-columns (length (columns (root (nodes-of bs)))) (first-clear 10 _ [] column-check .0))
+
+  -- Its columns come with it.
+  pub begun-columns : read-of (s .widths) bs .columns ≡ columns-of (columns (formula (query-read s bs)))
+  begun-columns = read-columns (s .widths) bs begun-read
+
+  pub begun-variables : variables-in (read-of (s .widths) bs .columns) ≡ columns (formula (query-read s bs))
+  begun-variables = let cols : List ℕ = columns (formula (query-read s bs)) in ap variables-in begun-columns ∙ take-append-seam cols (replicate (max-columns - length cols) 0)
+
+  -- It can be evaluated over every store in the layout that has the widths, the constants being 32-bit numbers.
+  pub begun-evaluable : ((i : ℕ) → getD (query-read s bs .constants) i 0 < 2 ^ 32) → (t : Store) → t .widths ≡ s .widths → judgement t ≡ Done → Evaluable t (query-read s bs) (read-of (s .widths) bs .columns)
+  begun-evaluable small t w judged =
+      record {
+        layout = judged-layout t judged .1;
+        accepted = subst⁻¹ (λ ws. Accepted ws (query-read s bs)) w (reading-accepted (s .widths) bs small begun-read);
+        columns-are = begun-columns;
+      }
+
+-- ---- the query as read, with the first of the causes 1 to 10 and of 12
+
+-- A reading with another answer.
+abbrev pub answered : Answer → Reading → Reading
+answered a r = record { answer = a; query = r .query; columns = r .columns }
+
+module _ (s : Store) (bs : List ℕ) where
+  -- The store is refused.
+  pub begun-refused : (n p : ℕ) → judgement s ≡ Refused n p → answered (Refused n p) (read-of (s .widths) bs) ≡ begun s bs
+  begun-refused n p e = ap (λ a. answered a (read-of (s .widths) bs)) (sym (then-refused (store-checks s) (read-checks (s .widths) bs) n p e))
+
+  -- It isn't: the query decides.
+  pub begun-reading : judgement s ≡ Done → read-of (s .widths) bs ≡ begun s bs
+  begun-reading judged = ap (λ a. answered a (read-of (s .widths) bs)) (sym (then-done (store-checks s) (read-checks (s .widths) bs) judged ∙ read-cause (s .widths) bs (read-of (s .widths) bs .answer) refl))
+
+  module _ (v : View) where
+    abbrev wanted : List ℕ
+    wanted = columns (formula (query-read s bs))
+
+    -- Store or query are refused.
+    pub readied-refused : (n p : ℕ) → begun s bs .answer ≡ Refused n p → begun s bs ≡ readied s v bs
+    readied-refused n p e = ap (λ a. answered a (begun s bs)) (e ∙ sym (then-refused (begin-checks s bs) (view-checks v wanted) n p e))
+
+    -- They aren't: the list decides.
+    list-decides : begun s bs .answer ≡ Done → (b : Bool) → suits v wanted ≡ b → first-cause (ready-checks s v bs) ≡ first-cause (check 12 (when (not b)) ∷ [])
+    list-decides e b t = then-done (begin-checks s bs) (view-checks v wanted) e ∙ ap (λ c. first-cause (check 12 (when (not c)) ∷ [])) t
+
+    pub readied-suited : begun s bs .answer ≡ Done → suits v wanted ≡ true → begun s bs ≡ readied s v bs
+    readied-suited e t = ap (λ a. answered a (begun s bs)) (e ∙ sym (list-decides e true t))
+
+    pub readied-unsuited : begun s bs .answer ≡ Done → suits v wanted ≡ false → answered (Refused 12 0) (begun s bs) ≡ readied s v bs
+    readied-unsuited e f = ap (λ a. answered a (begun s bs)) (sym (list-decides e false f))
+
+-- ---- rows found anew
+
+-- Those that are not over 512, by the mark.
+pub kept-by-mark : (found : Answers) → current found .over ≡ false → current found ≡ all-kept found
+kept-by-mark found e = ap (λ b. cond b too-many (all-kept found)) (sym (over-is found) ∙ e)
+
+-- ---- the reply to an opening
+
+module _ (s : Store) (bs : List ℕ) where
+  abbrev answers-found : Answers
+  answers-found = answers-to s (query-read s bs)
+
+  -- The reply by the first cause met.
+  opened-by : (a : Answer) → first-cause (begin-checks s bs ++ over-checks answers-found) ≡ a → opened-of s bs ≡ opening-reply a (columns (formula (query-read s bs))) answers-found
+  opened-by a e = ap (λ b. opening-reply b (columns (formula (query-read s bs))) answers-found) e
+
+  -- Store or query are refused.
+  pub opened-refused : (n p : ℕ) → first-cause (begin-checks s bs) ≡ Refused n p → opened-of s bs ≡ refused-opening n p
+  opened-refused n p e = opened-by (Refused n p) (then-refused (begin-checks s bs) (over-checks answers-found) n p e)
+
+  -- They aren't: the number of rows decides.
+  module _ (done : first-cause (begin-checks s bs) ≡ Done) where
+    rows-decide : (b : Bool) → current answers-found .over ≡ b → first-cause (begin-checks s bs ++ over-checks answers-found) ≡ first-cause (check 17 (when b) ∷ [])
+    rows-decide b o = then-done (begin-checks s bs) (over-checks answers-found) done ∙ ap (λ c. first-cause (check 17 (when c) ∷ [])) (sym (over-is answers-found) ∙ o)
+
+    pub opened-over : current answers-found .over ≡ true → opened-of s bs ≡ refused-opening 17 0
+    opened-over o = opened-by (Refused 17 0) (rows-decide true o)
+
+    pub opened-done : current answers-found .over ≡ false → opened-of s bs ≡ opening-reply Done (columns (formula (query-read s bs))) answers-found
+    opened-done o = opened-by Done (rows-decide false o)

@@ -1,0 +1,48 @@
+-- Causes 12 to 17 and 19 as a put or removal judges them, and what it makes of the records. Each row of document 01's table has one definition, which the
+-- replies and the ledger use.
+use Prim.Native.Nat.{ℕ, _*_, _^_}
+use mathlib.Core.Bool.{Bool, not, _||_}
+use mathlib.Core.List.{List, [], _∷_}
+use lib.ListN.{length}
+use lib.Dec.{ltb, leb}
+use Rattle.calculus.specs.Sets.{any-of}
+use Rattle.calculus.specs.Order.{insert}
+use Rattle.causes.specs.Causes.{Check, check, when}
+use Rattle.tables.specs.declared.Record.{Record}
+use Rattle.tables.specs.Records.{record-below, fits}
+use Rattle.tables.specs.Store.{capacity}
+use Rattle.tables.specs.Change.{is-held, without}
+use Rattle.standing.specs.declared.View.{View}
+use Rattle.standing.specs.View.{max-rows, suits}
+
+-- A call that changes a record.
+pub data Kind : Type 0 where
+  put : Kind
+  removal : Kind
+
+-- Cause 12: not in the layout, or other columns.
+abbrev pub view-checks : View → List ℕ → List Check
+view-checks v cols = check 12 (when (not (suits v cols))) ∷ []
+
+-- Causes 13 to 16, by the widths and the records held.
+abbrev pub record-checks : Kind → List ℕ → List Record → Record → List Check
+record-checks put ws held r =
+    check 13 (when (not (fits ws r))) ∷ check 14 (when (is-held r held)) ∷ check 15 (when (leb capacity (length held))) ∷ []
+record-checks removal ws held r = check 13 (when (not (fits ws r))) ∷ check 16 (when (not (is-held r held))) ∷ []
+
+-- The records after the change: r is added in its place, or taken out.
+abbrev pub records-after : Kind → Record → List Record → List Record
+records-after put r held = insert record-below r held
+records-after removal r held = without r held
+
+-- Cause 17: over 512 rows, or one of the three counts past what 64 bits hold.
+abbrev pub is-over : ℕ → Bool
+is-over rows = ltb max-rows rows
+
+abbrev pub is-past : ℕ → Bool
+is-past n = leb (2 ^ 64) n
+
+-- Causes 17 to 19, where so many rows of k columns joined and left, and the buffers have the lengths a and b.
+abbrev pub report-checks : Bool → List ℕ → ℕ → ℕ → ℕ → ℕ → ℕ → List Check
+report-checks over counts k joined left a b =
+    check 17 (when (over || any-of is-past counts)) ∷ check 18 (when (ltb a (joined * k))) ∷ check 19 (when (ltb b (left * k))) ∷ []

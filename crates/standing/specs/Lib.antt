@@ -1,0 +1,5 @@
+pub mod View
+pub mod Checks
+pub mod Change
+pub mod Ledger
+pub mod Runs

@@ -1,0 +1,135 @@
+-- Demand 3: every run is the ledger's. And what follows: after a run the list is endless exactly when infinitely many rows satisfy the query over the records
+-- then held, else it holds all such rows and no other; each change reports exactly the rows that joined and left; and the counts add up.
+use Prim.Native.Nat.{ℕ, _+_}
+use mathlib.Core.Path.{_≡_, refl, sym, ap, subst⁻¹, _∙_}
+use mathlib.Core.Logic.{_↔_}
+use mathlib.Core.Bool.{true}
+use mathlib.Core.List.{List, []}
+use lib.ListN.{length}
+use lib.Dec.{T}
+use Rattle.calculus.specs.Sets.{In}
+use Rattle.calculus.specs.Reflects.{Reflects, holds, fails}
+use Rattle.calculus.specs.Order.{Ascending}
+use Rattle.calculus.specs.Generators.{columns}
+use Rattle.calculus.specs.Rows.{Row, row-below, Answers, endless, listed, only-in}
+use Rattle.calculus.specs.Rows.Laws.{in-only-in, only-in-ascending}
+use Rattle.calculus.specs.Evaluation.Laws.{not-endless}
+use Rattle.causes.specs.declared.Answer.the-variants.{Done}
+use Rattle.tables.specs.declared.Store.{Store}
+use Rattle.tables.specs.Store.{facts, held}
+use Rattle.query.specs.declared.Query.{Query}
+use Rattle.query.specs.Reading.{pool, formula}
+use Rattle.answer.specs.Reply.{answers-to, query-read}
+use Rattle.answer.specs.Reply.Right.{EndlessOver, RightOver}
+use Rattle.standing.specs.declared.View.{View}
+use Rattle.standing.specs.View.{rows-in, kept, mark}
+use Rattle.standing.specs.Change.{opened-of, fronted}
+use Rattle.standing.specs.Ledger.{Ledger, Call, Report, Opens, Accounts}
+use Rattle.standing.specs.Ledger.Laws.{right-among, opening-ledger, opens-is, accounts-is, entry, entries, entry-reports}
+use Rattle.standing.specs.Runs.{Reply, Ensured, Run, Agrees, Agree, Represents}
+use Rattle.standing.specs.Runs.Steps.{Standing, step, steps, standing-rows, standing-ascends, standing-represents, opening-standing}
+
+-- ---- what a list keeps of right answers
+
+module _ (s : Store) (q : Query) where
+  -- Its mark says whether infinitely many rows satisfy the query;
+  marks : (a : Answers) → RightOver s q a → Reflects (EndlessOver s q) (mark a)
+  marks endless r = holds r
+  marks (listed rows) r = fails (not-endless (pool q) (facts s) (formula q) (columns (formula q)) rows r)
+
+  -- where not, it keeps all that do.
+  keeps : (a : Answers) → RightOver s q a → ¬ EndlessOver s q → RightOver s q (listed (kept a))
+  keeps endless r n = absurd (n r)
+  keeps (listed rows) r n = r
+
+-- A marked one keeps none.
+marked-none : (a : Answers) → mark a ≡ true → kept a ≡ []
+marked-none endless e = refl
+marked-none (listed rows) e = absurd (subst⁻¹ T e tt)
+
+-- ---- runs
+
+-- The run after an accepted opening of a list over s, for the query in the bytes bs.
+module _ (bs : List ℕ) (s t : Store) (v w : View) (opened : opened-of s bs ≡ record { answer = Done; view = v }) (cs : List Call) (rs : List Reply) (run : Run bs s v cs rs t w) where
+  -- The list stands for the ledger at the opening, so it does after any calls.
+  abbrev q : Query
+  q = query-read s bs
+
+  abbrev last : Ledger
+  last = entries q (opening-ledger q s) cs .1
+
+  stands : Standing bs q last t w
+  stands = steps bs q run (opening-ledger q s) (opening-standing bs s v opened) .1
+
+  rows-held : rows-in w ≡ kept (answers-to t q)
+  rows-held = standing-rows bs q last t w stands
+
+  -- The claim: whatever ledger is fed the opening's store and query and then the calls, the replies are its reports, and at the end store and list are its own.
+  pub demand : (l n : Ledger) (us : List Report) → Opens (query-read s bs) s l → Accounts (query-read s bs) l cs us n → Agree cs us rs × Represents (query-read s bs) n t w
+  demand l n us o a =
+      let all = steps bs q run l (subst⁻¹ (λ m. Standing bs q m s v) (opens-is q s l o) (opening-standing bs s v opened)) in
+      let same = accounts-is q a in
+      (subst⁻¹ (λ p. Agree cs (p .0) rs) same (all .0), standing-represents bs q n t w (subst⁻¹ (λ p. Standing bs q (p .1) t w) same (all .1)))
+
+  -- Endless exactly when infinitely many rows satisfy the query over the records then held;
+  pub run-endless : Reflects (EndlessOver t (query-read s bs)) (w .endless)
+  run-endless = subst⁻¹ (λ u. Reflects (EndlessOver t q) (u .endless)) (stands .view-is) (marks t q (answers-to t q) (right-among q (t .widths) (held t)))
+
+  -- and then without rows;
+  pub run-marked : w .endless ≡ true → rows-in w ≡ []
+  run-marked e = rows-held ∙ marked-none (answers-to t q) (ap (λ u. u .endless) (sym (stands .view-is)) ∙ e)
+
+  -- else the list holds all such rows and no other, each once, ascending.
+  pub run-rows : ¬ EndlessOver t (query-read s bs) → RightOver t (query-read s bs) (listed (rows-in w))
+  run-rows n = subst⁻¹ (λ rows. RightOver t q (listed rows)) rows-held (keeps t q (answers-to t q) (right-among q (t .widths) (held t)) n)
+
+  -- The counts add up.
+  pub run-balanced : w .opening + w .joined ≡ w .left + length (rows-in w)
+  run-balanced =
+      subst⁻¹ (λ u. u .opening + u .joined ≡ u .left + length (kept (answers-to t q))) (stands .view-is) (stands .state .balanced .counts) ∙ ap (λ rows. w .left + length rows) (sym rows-held)
+
+  -- A call after it, where it is accepted, reports exactly the rows that joined and left: each in the list now and not before, or before and not now; ascending.
+  pub run-reports : (c : Call) (r : Reply) → Ensured bs t w c r → r .0 .answer ≡ Done →
+      (joined : List Row) × (left : List Row)
+      × ((u : Row) → In u joined ↔ (In u (rows-in (r .0 .view)) × ¬ In u (rows-in w)))
+      × ((u : Row) → In u left ↔ (In u (rows-in w) × ¬ In u (rows-in (r .0 .view))))
+      × Ascending row-below joined
+      × Ascending row-below left
+      × (r .0 .joined ≡ length joined)
+      × (r .0 .left ≡ length left)
+      × (r .1 .0 ≡ fronted joined (c .first))
+      × (r .1 .1 ≡ fronted left (c .second))
+  run-reports c r e d = (
+    joined,
+    left,
+    λ u. in-only-in u now then,
+    λ u. in-only-in u then now,
+    only-in-ascending then (standing-ascends bs q (entry q last c .1) (r .0 .store) (r .0 .view) (next .1)),
+    only-in-ascending now (standing-ascends bs q last t w stands),
+    next .0 .joined-is ∙ ap length (reported .0),
+    next .0 .left-is ∙ ap length (reported .1),
+    next .0 .first-is ∙ ap (λ rows. fronted rows (c .first)) (reported .0),
+    next .0 .second-is ∙ ap (λ rows. fronted rows (c .second)) (reported .1),
+  )
+    where
+      next : Agrees c (entry q last c .0) r × Standing bs q (entry q last c .1) (r .0 .store) (r .0 .view)
+      next = step bs q last t w stands c r e
+
+      then : List Row
+      then = rows-in w
+
+      now : List Row
+      now = rows-in (r .0 .view)
+
+      joined : List Row
+      joined = only-in now then
+
+      left : List Row
+      left = only-in then now
+
+      reported : (entry q last c .0 .joined ≡ joined) × (entry q last c .0 .left ≡ left)
+      reported =
+          let told = entry-reports q last c (sym (next .0 .answer-is) ∙ d) in
+          let after = sym (standing-represents bs q (entry q last c .1) (r .0 .store) (r .0 .view) (next .1) .rows-are) in
+          let before = sym (standing-represents bs q last t w stands .rows-are) in
+          (told .0 ∙ (λ i. only-in (after i) (before i)), told .1 ∙ (λ i. only-in (before i) (after i)))

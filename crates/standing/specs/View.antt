@@ -1,0 +1,123 @@
+-- The standing list: document 01, "Rows, endless and listed", and its layout, cause 12. Definitions only; the laws are in View/Laws.antt.
+use Prim.Native.Nat.{ℕ, zero, suc, _+_, _*_, _≤_, _<_}
+use mathlib.Core.Path.{_≡_}
+use mathlib.Core.Bool.{Bool, true, false, not, _&&_}
+use mathlib.Core.List.{List, [], _∷_, map}
+use lib.ListN.{length, getD, take, drop}
+use lib.Dec.{T, eqb, ltb, leb}
+use Rattle.calculus.specs.Sets.{In, all-of, union-of, same-list}
+use Rattle.calculus.specs.Lists.{tabulate, padded}
+use Rattle.calculus.specs.Order.{Ascending, is-ascending}
+use Rattle.calculus.specs.Rows.{Row, row-below, Answers, endless, listed}
+use Rattle.query.specs.declared.Columns.{Columns}
+use Rattle.query.specs.Reading.{max-columns, columns-of}
+use Rattle.verdict.specs.Generating.{variables-in}
+use Rattle.standing.specs.declared.Rows.{Rows}
+use Rattle.standing.specs.declared.View.{View}
+pub mod Laws
+pub mod Difference
+pub mod Layout
+
+-- The number of row places.
+abbrev pub max-rows : ℕ
+max-rows = 512
+
+-- ---- rows in their places
+
+-- The four values at row place i.
+abbrev pub line-at : List ℕ → ℕ → Row
+line-at vs i = getD vs (4 * i) 0 ∷ getD vs (4 * i + 1) 0 ∷ getD vs (4 * i + 2) 0 ∷ getD vs (4 * i + 3) 0 ∷ []
+
+-- All row places, in order.
+unfoldable pub lines : List ℕ → List Row
+lines vs = tabulate (line-at vs) max-rows
+
+-- Those of the rows held, and those past the count.
+abbrev pub lines-held : Rows → List Row
+lines-held r = take (r .count) (lines (r .values))
+
+abbrev pub lines-unused : Rows → List Row
+lines-unused r = drop (r .count) (lines (r .values))
+
+-- Whether a list is zero from place k on.
+abbrev pub ends : ℕ → List ℕ → Bool
+ends k xs = all-of (eqb 0) (drop k xs)
+
+-- Rows as they are stored: each in four places, those past its values zero, and every place past the last row zero.
+abbrev pub stored : List Row → Rows
+stored rows = record { values = union-of (padded max-columns 0) (padded max-rows [] rows); count = length rows }
+
+-- ---- a standing list
+
+-- Its columns, and the rows that it holds.
+abbrev pub columns-in : View → List ℕ
+columns-in v = variables-in (v .columns)
+
+abbrev pub rows-in : View → List Row
+rows-in v = map (take (v .columns .count)) (lines-held (v .rows))
+
+-- The layout. At most four columns, ascending, and unused places of columns zero;
+abbrev pub columns-fit : View → Bool
+columns-fit v = leb (v .columns .count) max-columns && all-of (λ c. ltb c 16) (columns-in v) && is-ascending ltb (columns-in v) && ends (v .columns .count) (v .columns .variables)
+
+-- at most 512 rows, strictly ascending, and unused places of rows and values zero;
+abbrev pub rows-fit : View → Bool
+rows-fit v =
+    leb (v .rows .count) max-rows
+    && is-ascending row-below (rows-in v)
+    && all-of (ends (v .columns .count)) (lines-held (v .rows))
+    && all-of (ends 0) (lines-unused (v .rows))
+
+-- no rows in an endless list; and rows at opening plus joined are left plus rows held, as whole numbers.
+abbrev pub counts-fit : View → Bool
+counts-fit v = not (v .endless && ltb 0 (v .rows .count)) && eqb (v .opening + v .joined) (v .left + v .rows .count)
+
+abbrev pub view-fits : View → Bool
+view-fits v = columns-fit v && rows-fit v && counts-fit v
+
+-- In the layout, and with the columns of the query.
+abbrev pub suits : View → List ℕ → Bool
+suits v cols = view-fits v && same-list (columns-in v) cols
+
+-- ---- the list of what a query answers
+
+-- The rows that a list keeps of it, and its mark: an endless one keeps none.
+abbrev pub kept : Answers → List Row
+kept endless = []
+kept (listed rows) = rows
+
+abbrev pub mark : Answers → Bool
+mark endless = true
+mark (listed rows) = false
+
+-- The list of these columns and answers, with its counts of rows at opening, joined and left.
+abbrev pub view-of : List ℕ → Answers → ℕ → ℕ → ℕ → View
+view-of cols found opening joined left =
+    record { columns = columns-of cols; rows = stored (kept found); endless = mark found; opening = opening; joined = joined; left = left }
+
+-- ---- how the code goes about it
+
+-- The n rows of k values that stand one after the other in a list.
+abbrev pub cut : ℕ → ℕ → List ℕ → List Row
+cut k zero xs = []
+cut k (suc n) xs = take k xs ∷ cut k n (drop k xs)
+
+-- At most 512 rows, strictly ascending in their places.
+abbrev pub InOrder : Rows → Type 0
+InOrder r = (r .count ≤ max-rows) × Ascending row-below (lines-held r)
+
+-- Of the first m places of ys, from j on, p is the first whose row is not below that at place i of xs.
+abbrev pub Skipped : List ℕ → ℕ → ℕ → List ℕ → ℕ → ℕ → Type 0
+Skipped ys m j xs i p =
+    (j ≤ p) × (p ≤ m) × ((o : ℕ) → j ≤ o → o < p → T (row-below (line-at ys o) (line-at xs i))) × (p < m → ¬ T (row-below (line-at ys p) (line-at xs i)))
+
+-- Whether the row at place i of xs stands at place j of ys, of the first m.
+abbrev pub has-at : List ℕ → ℕ → ℕ → List ℕ → ℕ → Bool
+has-at ys m j xs i = ltb j m && same-list (line-at xs i) (line-at ys j)
+
+-- The columns of an accepted query: at most four variables, ascending, with zeros in the places past them.
+pub record QueryColumns (c : Columns) : Type 0 where
+  pub few : length (variables-in c) ≤ max-columns
+  pub small : (x : ℕ) → In x (variables-in c) → x < 16
+  pub ascending : Ascending ltb (variables-in c)
+  pub whole : c ≡ columns-of (variables-in c)

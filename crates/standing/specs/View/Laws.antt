@@ -1,0 +1,253 @@
+-- Laws of rows in their places: the flattened values as one list of lines, and rows written and read back.
+-- The values of stored rows are the numbers of 512 lines of four, and a list of lines is got back from its numbers.
+use Prim.Native.Nat.{ℕ, zero, suc, _+_, _*_, _-_, _≤_, _<_}
+use native.Mathlib.Omega.{arith}
+use native.Mathlib.Nat.{zero-mul, suc-mul, sub-zero, zero-sub, suc-sub-suc}
+use mathlib.Core.Path.{_≡_, refl, sym, ap, _∙_}
+use mathlib.Core.Logic.{⊎-elim}
+use mathlib.Core.List.{List, [], _∷_, _++_, map, map-append, append-assoc, append-nil}
+use lib.ListN.{length, getD, take, drop, replicate, length-append, length-drop, length-map, length-replicate}
+use lib.Seq.{length-take-le, drop-cons, drop-drop, drop-append-le, append-snoc, getD-append-add, take-at, drop-at}
+use Rattle.calculus.specs.Sets.{In, here, there, union-of}
+use Rattle.calculus.specs.Sets.Laws.{in-append, in-nil, from-map, union-append}
+use Rattle.calculus.specs.Lists.{tabulate, padded}
+use Rattle.calculus.specs.Lists.Laws.{length-tabulate, getD-tabulate, length-padded, from-tabulate, tabulate-same}
+use Rattle.calculus.specs.Rows.{Row}
+use Rattle.answer.specs.Listing.{numbers}
+use Rattle.standing.specs.View.{line-at, lines, lines-held, lines-unused, stored, cut}
+
+-- Every row has k values.
+abbrev pub Width : ℕ → List Row → Type 0
+Width k rows = (w : Row) → In w rows → length w ≡ k
+
+-- ---- the places of the values
+
+-- There are 512 lines.
+pub length-lines : (vs : List ℕ) → length (lines vs) ≡ 512
+unfolding lines
+length-lines vs = length-tabulate (line-at vs) 512
+
+-- Line i is made of the values at place i.
+pub getD-lines : (vs : List ℕ) (i : ℕ) → i < 512 → getD (lines vs) i [] ≡ line-at vs i
+unfolding lines
+getD-lines vs i h = getD-tabulate (line-at vs) 512 i [] h
+
+-- The numbers from place a on, one at a time.
+one-taken : (vs : List ℕ) (a b m : ℕ) → b ≡ suc a → a < length vs → take (suc m) (drop a vs) ≡ getD vs a 0 ∷ take m (drop b vs)
+one-taken vs a b m e h = ap (take (suc m)) (drop-cons vs a 0 h) ∙ ap (λ j. getD vs a 0 ∷ take m (drop j vs)) (sym e)
+
+four-taken : (vs : List ℕ) (a : ℕ) → a + 4 ≤ length vs → take 4 (drop a vs) ≡ getD vs a 0 ∷ getD vs (a + 1) 0 ∷ getD vs (a + 2) 0 ∷ getD vs (a + 3) 0 ∷ []
+four-taken vs a h =
+    one-taken vs a (a + 1) 3 (omega arith) (omega arith)
+    ∙ ap (λ r. getD vs a 0 ∷ r) (one-taken vs (a + 1) (a + 2) 2 (omega arith) (omega arith))
+    ∙ ap (λ r. getD vs a 0 ∷ getD vs (a + 1) 0 ∷ r) (one-taken vs (a + 2) (a + 3) 1 (omega arith) (omega arith))
+    ∙ ap (λ r. getD vs a 0 ∷ getD vs (a + 1) 0 ∷ getD vs (a + 2) 0 ∷ r) (one-taken vs (a + 3) (a + 4) 0 (omega arith) (omega arith))
+
+-- A line is the next four values.
+pub line-taken : (vs : List ℕ) (i : ℕ) → 4 * i + 4 ≤ length vs → take 4 (drop (4 * i) vs) ≡ line-at vs i
+line-taken vs i h = four-taken vs (4 * i) h
+
+from-first : {w : Row} (n : ℕ) (rows : List Row) → In w (take n rows) → In w rows
+from-first (suc n) (r ∷ rows) (here e) = here e
+from-first (suc n) (r ∷ rows) (there i) = there (from-first n rows i)
+
+-- Every line has four values.
+pub width-lines : (vs : List ℕ) → Width 4 (lines vs)
+unfolding lines
+width-lines vs w i = ap length (from-tabulate (line-at vs) 512 i .2)
+
+-- Cut to k values, each has k of them.
+pub width-rows : (k n : ℕ) (vs : List ℕ) → k ≤ 4 → Width k (map (take k) (take n (lines vs)))
+width-rows k n vs few w i =
+    let r = from-map (take k) (take n (lines vs)) i in
+    ap length (r .2) ∙ length-take-le k (r .0) (omega (arith, width-lines vs (r .0) (from-first n (lines vs) (r .1))))
+
+-- ---- the numbers of lines
+
+line-first : (q : Row) (rest : List ℕ) → length q ≡ 4 → line-at (q ++ rest) 0 ≡ q
+line-first q rest e = sym (line-taken (q ++ rest) 0 (omega (arith, length-append q rest))) ∙ take-at q rest 4 e
+
+line-later : (q : Row) (rest : List ℕ) (i : ℕ) → length q ≡ 4 → line-at (q ++ rest) (suc i) ≡ line-at rest i
+line-later q rest i e = λ j. at (4 * suc i) (4 * i) (omega arith) j ∷ at (4 * suc i + 1) (4 * i + 1) (omega arith) j ∷ at (4 * suc i + 2) (4 * i + 2) (omega arith) j ∷ at (4 * suc i + 3) (4 * i + 3) (omega arith) j ∷ []
+  where
+    at : (m n : ℕ) → m ≡ length q + n → getD (q ++ rest) m 0 ≡ getD rest n 0
+    at m n f = ap (λ (p : ℕ). getD (q ++ rest) p 0) f ∙ getD-append-add q rest n 0
+
+tabulated-numbers : (qs : List Row) → Width 4 qs → tabulate (line-at (numbers qs)) (length qs) ≡ qs
+tabulated-numbers [] w = refl
+tabulated-numbers (q ∷ qs) w =
+    let e : length q ≡ 4 = w q (here refl) in
+    λ j. line-first q (numbers qs) e j ∷ (tabulate-same (λ i. line-at (q ++ numbers qs) (suc i)) (line-at (numbers qs)) (length qs) (λ i. line-later q (numbers qs) i e) ∙ tabulated-numbers qs (λ u i. w u (there i))) j
+
+-- Lines of four are got back from their numbers.
+pub lines-numbers : (qs : List Row) → Width 4 qs → length qs ≡ 512 → lines (numbers qs) ≡ qs
+unfolding lines
+lines-numbers qs w e = ap (tabulate (line-at (numbers qs))) (sym e) ∙ tabulated-numbers qs w
+
+-- Rows of k values have k numbers each.
+pub length-numbers : (k : ℕ) (rows : List Row) → Width k rows → length (numbers rows) ≡ length rows * k
+length-numbers k [] w = sym (zero-mul k)
+length-numbers k (r ∷ rows) w =
+    length-append r (numbers rows) ∙ omega (arith, w r (here refl), length-numbers k rows (λ u i. w u (there i)), suc-mul (length rows) k)
+
+-- ---- rows as they are stored
+
+-- A line of zeros.
+abbrev no-line : Row
+no-line = 0 ∷ 0 ∷ 0 ∷ 0 ∷ []
+
+-- The lines of stored rows: each filled up with zeros, and lines of zeros after them.
+abbrev filled : List Row → List Row
+filled rows = map (padded 4 0) rows ++ replicate (512 - length rows) no-line
+
+numbers-map : (f : Row → Row) (rows : List Row) → union-of f rows ≡ numbers (map f rows)
+numbers-map f [] = refl
+numbers-map f (r ∷ rows) = ap (λ ns. f r ++ ns) (numbers-map f rows)
+
+map-replicate : (f : Row → Row) (n : ℕ) (r : Row) → map f (replicate n r) ≡ replicate n (f r)
+map-replicate f zero r = refl
+map-replicate f (suc n) r = ap (λ rs. f r ∷ rs) (map-replicate f n r)
+
+values-filled : (rows : List Row) → stored rows .values ≡ numbers (filled rows)
+values-filled rows =
+    numbers-map (padded 4 0) (padded 512 [] rows)
+    ∙ ap numbers (map-append (padded 4 0) rows (replicate (512 - length rows) []) ∙ ap (λ rs. map (padded 4 0) rows ++ rs) (map-replicate (padded 4 0) (512 - length rows) []))
+
+-- No rows are stored as zeros.
+pub stored-none : stored [] .values ≡ replicate 2048 0
+stored-none = refl
+
+in-replicate : (n : ℕ) (r : Row) {w : Row} → In w (replicate n r) → w ≡ r
+in-replicate (suc n) r (here e) = e
+in-replicate (suc n) r (there i) = in-replicate n r i
+
+drop-replicate : (n k z : ℕ) → drop k (replicate n z) ≡ replicate (n - k) z
+drop-replicate n zero z = rw sub-zero
+drop-replicate zero (suc k) z = rw zero-sub
+drop-replicate (suc n) (suc k) z = drop-replicate n k z ∙ rw suc-sub-suc
+
+-- Numbers written over the first of those in the middle.
+middle-written : (before middle after r : List ℕ) (a k : ℕ) → length before ≡ a → k ≤ length middle → take a (before ++ (middle ++ after)) ++ r ++ drop (a + k) (before ++ (middle ++ after)) ≡ before ++ (r ++ drop k middle ++ after)
+middle-written before middle after r a k e h =
+    (λ j. take-at before (middle ++ after) a e j ++ r ++ (sym (drop-drop k a (before ++ (middle ++ after))) ∙ ap (drop k) (drop-at before (middle ++ after) a e) ∙ drop-append-le k middle after h) j)
+    ∙ append-assoc before r (drop k middle ++ after)
+    ∙ ap (λ ns. before ++ ns) (sym (append-assoc r (drop k middle) after))
+
+-- A row filled up is not filled up further.
+padded-padded : (r : Row) → length r ≤ 4 → padded 4 0 (padded 4 0 r) ≡ padded 4 0 r
+padded-padded r h = ap (λ n. padded 4 0 r ++ replicate (4 - n) 0) (length-padded 4 0 r h) ∙ append-nil (padded 4 0 r)
+
+-- Rows filled up are cut back.
+rows-read : (k : ℕ) (rows : List Row) → Width k rows → map (take k) (map (padded 4 0) rows) ≡ rows
+rows-read k [] wide = refl
+rows-read k (r ∷ rows) wide = λ j. take-at r (replicate (4 - length r) 0) k (wide r (here refl)) j ∷ rows-read k rows (λ u i. wide u (there i)) j
+
+module _ (k : ℕ) (few : k ≤ 4) where
+  width-filled : (rows : List Row) → Width k rows → Width 4 (map (padded 4 0) rows)
+  width-filled rows wide w i =
+      let r = from-map (padded 4 0) rows i in
+      ap length (r .2) ∙ length-padded 4 0 (r .0) (omega (arith, wide (r .0) (r .1)))
+
+  rows-padded : (rows : List Row) → Width k rows → map (padded 4 0) (map (padded 4 0) rows) ≡ map (padded 4 0) rows
+  rows-padded [] wide = refl
+  rows-padded (r ∷ rows) wide = λ j. padded-padded r (omega (arith, wide r (here refl))) j ∷ rows-padded rows (λ u i. wide u (there i)) j
+
+module _ (k : ℕ) (few : k ≤ 4) (rows : List Row) (h : length rows ≤ 512) (wide : Width k rows) where
+  abbrev mine : List Row
+  mine = map (padded 4 0) rows
+
+  abbrev others : List Row
+  others = replicate (512 - length rows) no-line
+
+  length-mine : length mine ≡ length rows
+  length-mine = length-map rows (padded 4 0)
+
+  width-all : Width 4 (filled rows)
+  width-all w i = ⊎-elim (λ j. width-filled k few rows wide w j) (λ j. ap length (in-replicate (512 - length rows) no-line j)) (in-append mine i)
+
+  length-filled : length (filled rows) ≡ 512
+  length-filled = length-append mine others ∙ omega (arith, length-mine, length-replicate (512 - length rows) no-line)
+
+  -- They take all places.
+  pub length-stored : length (stored rows .values) ≡ 2048
+  length-stored = ap length (values-filled rows) ∙ length-numbers 4 (filled rows) width-all ∙ ap (λ n. n * 4) length-filled
+
+  lines-filled : lines (stored rows .values) ≡ filled rows
+  lines-filled = ap lines (values-filled rows) ∙ lines-numbers (filled rows) width-all length-filled
+
+  -- Their lines are the rows, filled up with zeros,
+  pub lines-stored : lines-held (stored rows) ≡ map (padded 4 0) rows
+  lines-stored = ap (take (length rows)) lines-filled ∙ take-at mine others (length rows) length-mine
+
+  -- and the lines after them are zero.
+  pub unused-stored : lines-unused (stored rows) ≡ replicate (512 - length rows) (0 ∷ 0 ∷ 0 ∷ 0 ∷ [])
+  unused-stored = ap (drop (length rows)) lines-filled ∙ drop-at mine others (length rows) length-mine
+
+  -- They are read back.
+  pub rows-stored : map (take k) (lines-held (stored rows)) ≡ rows
+  rows-stored = ap (map (take k)) lines-stored ∙ rows-read k rows wide
+
+  -- Filled up with zeros they are stored alike.
+  pub stored-padded : stored (map (padded 4 0) rows) ≡ stored rows
+  stored-padded = λ j. record { values = same j; count = length-mine j }
+    where
+      same : stored mine .values ≡ stored rows .values
+      same = values-filled mine ∙ (λ j. numbers (rows-padded k few rows wide j ++ replicate (512 - length-mine j) no-line)) ∙ sym (values-filled rows)
+
+  -- One row more, written after them.
+  pub stored-next : (r : Row) → length r ≡ k → length rows < 512 → take (4 * length rows) (stored rows .values) ++ r ++ drop (4 * length rows + k) (stored rows .values) ≡ stored (rows ++ (r ∷ [])) .values
+  stored-next r e l =
+      (λ j. take (4 * length rows) (values-are j) ++ r ++ drop (4 * length rows + k) (values-are j))
+      ∙ middle-written (numbers mine) no-line after r (4 * length rows) k length-before few
+      ∙ ap (λ q. numbers mine ++ (q ++ after)) (ap (λ ns. r ++ ns) (drop-replicate 4 k 0) ∙ ap (λ n. r ++ replicate (4 - n) 0) (sym e))
+      ∙ sym values-come
+    where
+      left : ℕ
+      left = 512 - length (rows ++ (r ∷ []))
+
+      after : List ℕ
+      after = numbers (replicate left no-line)
+
+      length-before : length (numbers mine) ≡ 4 * length rows
+      length-before = length-numbers 4 mine (width-filled k few rows wide) ∙ omega (arith, length-mine)
+
+      values-are : stored rows .values ≡ numbers mine ++ (no-line ++ after)
+      values-are =
+          let f : 512 - length rows ≡ suc left = omega (arith, length-append rows (r ∷ [])) in
+          values-filled rows ∙ union-append (λ w. w) mine others ∙ ap (λ n. numbers mine ++ numbers (replicate n no-line)) f
+
+      values-come : stored (rows ++ (r ∷ [])) .values ≡ numbers mine ++ (padded 4 0 r ++ after)
+      values-come =
+          values-filled (rows ++ (r ∷ []))
+          ∙ ap (λ rs. numbers (rs ++ replicate left no-line)) (map-append (padded 4 0) rows (r ∷ []))
+          ∙ ap numbers (append-snoc mine (padded 4 0 r) (replicate left no-line))
+          ∙ union-append (λ w. w) mine (padded 4 0 r ∷ replicate left no-line)
+
+-- ---- rows that stand one after the other
+
+-- They are n,
+pub length-cut : (k n : ℕ) (xs : List ℕ) → length (cut k n xs) ≡ n
+length-cut k zero xs = refl
+length-cut k (suc n) xs = ap suc (length-cut k n (drop k xs))
+
+-- of k values where there are enough.
+pub cut-width : (k n : ℕ) (xs : List ℕ) → n * k ≤ length xs → Width k (cut k n xs)
+cut-width k zero xs h w i = absurd (in-nil i)
+cut-width k (suc n) xs h w (here e) = ap length e ∙ length-take-le k xs (omega (arith, suc-mul n k))
+cut-width k (suc n) xs h w (there i) = cut-width k n (drop k xs) (omega (arith, suc-mul n k, length-drop k xs)) w i
+
+-- One row more is cut at the end.
+pub cut-next : (k n : ℕ) (xs : List ℕ) → cut k (suc n) xs ≡ cut k n xs ++ (take k (drop (n * k) xs) ∷ [])
+cut-next k zero xs = ap (λ (m : ℕ). take k (drop m xs) ∷ []) (sym (zero-mul k))
+cut-next k (suc n) xs =
+    let e : k + n * k ≡ suc n * k = omega (arith, suc-mul n k) in
+    ap (λ (rs : List Row). take k xs ∷ rs) (cut-next k n (drop k xs))
+    ∙ ap (λ (ys : List ℕ). take k xs ∷ (cut k n (drop k xs) ++ (take k ys ∷ []))) (drop-drop (n * k) k xs ∙ ap (λ (m : ℕ). drop m xs) e)
+
+-- Rows are cut from their own numbers.
+pub cut-numbers : (k : ℕ) (rows : List Row) (rest : List ℕ) → Width k rows → cut k (length rows) (numbers rows ++ rest) ≡ rows
+cut-numbers k [] rest w = refl
+cut-numbers k (r ∷ rows) rest w =
+    let e : length r ≡ k = w r (here refl) in
+    ap (cut k (suc (length rows))) (append-assoc r (numbers rows) rest)
+    ∙ (λ j. take-at r (numbers rows ++ rest) k e j ∷ (ap (cut k (length rows)) (drop-at r (numbers rows ++ rest) k e) ∙ cut-numbers k rows rest (λ u i. w u (there i))) j)
