@@ -4,9 +4,14 @@
 // runs in memory, with an index on every column, and its statements are prepared outside the timing. A time of the engine is that of the whole call: the store
 // is judged, the query read and evaluated, and the rows written. Rows are compared with SQLite's, in their order, and must be equal.
 //
+// Then each query has a standing list, and a record is removed from the full store and put back: the engine's time is again that of the whole call, which also
+// judges the list, finds its rows anew and writes those that joined and left; SQLite makes the same change, by a prepared statement, and runs the query again.
+// The rows that joined and left are compared with the difference of SQLite's rows before and after.
+//
 // There are two stores, both with 256 records and the same joins: in the coarse one measurements are round numbers that recur, in the fine one each is its own.
 //
-// Usage: bench [PART], where only the queries whose name has this part are run. It fails where rows differ or the reach is missed.
+// Usage: bench [changes] [PART], where only the queries whose name has this part are run, and with the word only their changes. It fails where rows differ or
+// the reach is missed.
 #define _POSIX_C_SOURCE 200809L
 #include <math.h>
 #include <sqlite3.h>
@@ -28,7 +33,11 @@ static void die(const char *what, const char *which) {
 
 // ---- The engine -------------------------------------------------------------------------------------------------------------------------------------------
 
-enum { RELATIONS = 16, PLACES = 256, WIDTH = 4, ROOM = 4096 };
+enum { RELATIONS = 16, PLACES = 256, WIDTH = 4, ROWS = 512, ROOM = 4096 };
+
+typedef struct {
+    uint32_t relation, values[WIDTH];
+} Record;
 
 // A store in the layout: records strictly ascending by relation and values, with zeros past a relation's width and past the count.
 typedef struct {
@@ -38,21 +47,54 @@ typedef struct {
     size_t count;
 } Store;
 
+// A standing list in the layout, as opened: its columns ascending, and its rows ascending in four places each, with zeros past the columns and past the count.
+typedef struct {
+    uint8_t variables[WIDTH];
+    size_t columns;
+    uint32_t values[WIDTH * ROWS];
+    size_t count;
+    bool endless;
+} List;
+
 typedef struct {
     uint64_t refusal, place, endless, rows;
 } Reply;
 
-// The entry of crates/bench. It returns the number of rows; or 2^63 for endless; or 2^63 + 256 × number + place for a refusal.
+typedef struct {
+    uint64_t refusal, joined, left;
+} Change;
+
+enum { REMOVAL, PUT, CHANGES };
+
+// The entries of crates/bench, which the next two functions alone know. The first returns the number of rows; or 2^63 for endless; or 2^63 + 256 × number +
+// place for a refusal.
 extern uint64_t palmrummy_find(const uint8_t *widths, const uint8_t *relations, const uint32_t *values, size_t count, const uint8_t *bytes, size_t length,
                                bool wanted, uint32_t *out, size_t room);
 
-// The rows of a packed query over a store. Nothing else here knows the entry.
+// The second returns the numbers of rows that joined and left, as joined + 65536 × left; or the same for a refusal.
+extern uint64_t palmrummy_change(const uint8_t *widths, const uint8_t *relations, const uint32_t *values, size_t count, const uint8_t *variables,
+                                 size_t columns, const uint32_t *rows, size_t held, bool endless, const uint64_t *counts, const uint8_t *bytes, size_t length,
+                                 bool removal, uint8_t relation, const uint32_t *tuple, uint32_t *joined, size_t joined_room, uint32_t *left,
+                                 size_t left_room);
+
+static const uint64_t SIGN = UINT64_C(1) << 63;
+
+// The rows of a packed query over a store.
 static Reply engine_find(const Store *store, const uint8_t *bytes, size_t length, uint32_t *out) {
-    const uint64_t endless = UINT64_C(1) << 63;
     uint64_t found = palmrummy_find(store->widths, store->relations, store->values, store->count, bytes, length, false, out, ROOM);
-    if (found == endless) return (Reply){.endless = 1};
-    if (found > endless) return (Reply){.refusal = (found - endless) / 256, .place = found % 256};
+    if (found == SIGN) return (Reply){.endless = 1};
+    if (found > SIGN) return (Reply){.refusal = (found - SIGN) / 256, .place = found % 256};
     return (Reply){.rows = found};
+}
+
+// A record put into a store, or removed from it, with the list of a packed query: the rows that joined and left are written.
+static Change engine_change(int change, const Store *store, const List *list, const uint8_t *bytes, size_t length, const Record *r, uint32_t *joined,
+                            uint32_t *left) {
+    const uint64_t counts[] = {list->count, 0, 0};
+    uint64_t told = palmrummy_change(store->widths, store->relations, store->values, store->count, list->variables, list->columns, list->values, list->count,
+                                     list->endless, counts, bytes, length, change == REMOVAL, (uint8_t)r->relation, r->values, joined, ROOM, left, ROOM);
+    if (told > SIGN) return (Change){.refusal = (told - SIGN) / 256};
+    return (Change){.joined = told % 65536, .left = told / 65536};
 }
 
 // ---- Formulas ---------------------------------------------------------------------------------------------------------------------------------------------
@@ -119,6 +161,20 @@ static const Formula *exists_of(const Formula *f, int count, const Term *variabl
 
 // every(f, g, x): for all x with f, g; by double negation.
 #define every(f, g, ...) neg(exists(conj(f, neg(g)), __VA_ARGS__))
+
+// Whether a formula, or one within it, is a record of this relation.
+static bool names(const Formula *f, uint32_t relation) {
+    if (f->kind == RECORD) return f->relation == relation;
+    return (f->left && names(f->left, relation)) || (f->right && names(f->right, relation));
+}
+
+static bool is_free(const Formula *f, uint32_t x) {
+    int terms = f->kind == EQUALITY ? 2 : f->term_count;
+    for (int i = 0; i < terms; i++)
+        if (!f->terms[i].constant && f->terms[i].number == x) return true;
+    if (f->kind == EXISTS && f->variable == x) return false;
+    return (f->left && is_free(f->left, x)) || (f->right && is_free(f->right, x));
+}
 
 // ---- Packing ----------------------------------------------------------------------------------------------------------------------------------------------
 
@@ -198,10 +254,6 @@ static const struct {
     [REPAIRS] = {"repairs", {"feature", "day"}, 2, 4},
 };
 
-typedef struct {
-    uint32_t relation, values[WIDTH];
-} Record;
-
 // The numbers of things.
 static uint32_t crew_number(uint32_t i) { return 1 + i; }
 static uint32_t sensor_number(uint32_t i) { return 5 + i; }
@@ -276,6 +328,23 @@ static Store filled(bool fine) {
     return store;
 }
 
+static Record record_at(const Store *store, size_t place) {
+    Record r = {.relation = store->relations[place]};
+    memcpy(r.values, &store->values[WIDTH * place], sizeof r.values);
+    return r;
+}
+
+// The store without the record at a place.
+static Store without(const Store *store, size_t place) {
+    Store rest = *store;
+    size_t last = --rest.count, moved = last - place;
+    memmove(&rest.relations[place], &rest.relations[place + 1], moved);
+    memmove(&rest.values[WIDTH * place], &rest.values[WIDTH * (place + 1)], WIDTH * moved * sizeof rest.values[0]);
+    rest.relations[last] = 0;
+    memset(&rest.values[WIDTH * last], 0, WIDTH * sizeof rest.values[0]);
+    return rest;
+}
+
 static int by_value(const void *a, const void *b) {
     uint32_t x = *(const uint32_t *)a, y = *(const uint32_t *)b;
     return (x > y) - (x < y);
@@ -306,6 +375,12 @@ static size_t query_count;
 static void add(Query q) {
     if (query_count == sizeof queries / sizeof queries[0]) die("too many queries", q.name);
     queries[query_count++] = q;
+}
+
+static bool has_query(const char *part) {
+    for (size_t i = 0; i < query_count; i++)
+        if (strstr(queries[i].name, part)) return true;
+    return false;
 }
 
 // A query with columns; one without, whose SQL has a row where it holds; and an endless one, where SQLite decides whether some row that satisfies the query has
@@ -608,6 +683,32 @@ static sqlite3 *opened(const Store *store) {
     return db;
 }
 
+static sqlite3_stmt *prepared(sqlite3 *db, const char *sql) {
+    sqlite3_stmt *statement;
+    if (sqlite3_prepare_v2(db, sql, -1, &statement, NULL) != SQLITE_OK) die(sqlite3_errmsg(db), sql);
+    return statement;
+}
+
+// The statement that removes a record of a table or puts one, with a parameter for each column.
+static sqlite3_stmt *prepared_change(sqlite3 *db, int change, uint32_t r) {
+    char sql[256];
+    int n = snprintf(sql, sizeof sql, change == REMOVAL ? "DELETE FROM %s WHERE " : "INSERT INTO %s VALUES (", tables[r].name);
+    for (uint32_t j = 0; j < tables[r].width; j++) {
+        const char *between = j == 0 ? "" : change == REMOVAL ? " AND " : ", ";
+        n += change == REMOVAL ? snprintf(sql + n, sizeof sql - (size_t)n, "%s%s = ?", between, tables[r].columns[j])
+                               : snprintf(sql + n, sizeof sql - (size_t)n, "%s?", between);
+    }
+    if (change == PUT) snprintf(sql + n, sizeof sql - (size_t)n, ")");
+    return prepared(db, sql);
+}
+
+// A prepared change of this record.
+static void sqlite_change(sqlite3_stmt *statement, const Record *r) {
+    for (uint32_t j = 0; j < tables[r->relation].width; j++) sqlite3_bind_int64(statement, (int)j + 1, r->values[j]);
+    if (sqlite3_step(statement) != SQLITE_DONE || sqlite3_changes(sqlite3_db_handle(statement)) != 1) die("a record was not changed", "SQLite");
+    sqlite3_reset(statement);
+}
+
 // All rows of a prepared statement, written as the engine writes them, as far as there is room; their number is returned.
 static size_t sqlite_find(sqlite3_stmt *statement, uint32_t *out) {
     int k = sqlite3_column_count(statement);
@@ -657,9 +758,15 @@ static int by_time(const void *a, const void *b) {
     return (x > y) - (x < y);
 }
 
+enum { BATCHES = 7 };
+
+static double median(double *times) {
+    qsort(times, BATCHES, sizeof times[0], by_time);
+    return times[BATCHES / 2];
+}
+
 // Seconds of one run of each: the median of several batches, taken in turn, so that a busy machine slows both down alike.
 static void timed(Work *w, double *engine, double *sqlite) {
-    enum { BATCHES = 7 };
     double mine[BATCHES], theirs[BATCHES];
     for (int i = 0; i < 3; i++) {
         by_engine(w);
@@ -669,13 +776,63 @@ static void timed(Work *w, double *engine, double *sqlite) {
         mine[b] = batch(by_engine, w);
         theirs[b] = batch(by_sqlite, w);
     }
-    qsort(mine, BATCHES, sizeof mine[0], by_time);
-    qsort(theirs, BATCHES, sizeof theirs[0], by_time);
-    *engine = mine[BATCHES / 2];
-    *sqlite = theirs[BATCHES / 2];
+    *engine = median(mine);
+    *sqlite = median(theirs);
 }
 
-// ---- The report -------------------------------------------------------------------------------------------------------------------------------------------
+// One query and one record of a full store, ready to be removed and put back.
+typedef struct {
+    Record record;
+    Store stores[CHANGES];  // before a removal, and before a put
+    List lists[CHANGES];    // of these stores
+    uint8_t bytes[BYTES];
+    size_t length;
+    sqlite3_stmt *statement, *changes[CHANGES];
+    uint32_t out[ROOM], joined[ROOM], left[ROOM];
+} Turn;
+
+static void turn_by_engine(Turn *t, int change) {
+    engine_change(change, &t->stores[change], &t->lists[change], t->bytes, t->length, &t->record, t->joined, t->left);
+}
+
+static void turn_by_sqlite(Turn *t, int change) {
+    sqlite_change(t->changes[change], &t->record);
+    sqlite_find(t->statement, t->out);
+}
+
+// Seconds of one removal and of one put, taken in turn, over 200 of each or 20 ms.
+static void batch_of_turns(void (*run)(Turn *, int), Turn *t, double seconds[CHANGES]) {
+    double spent[CHANGES] = {0, 0};
+    int n = 0;
+    do {
+        for (int change = 0; change < CHANGES; change++) {
+            double start = now();
+            run(t, change);
+            spent[change] += now() - start;
+        }
+        n++;
+    } while (n < 200 && spent[REMOVAL] + spent[PUT] < 20e-3);
+    for (int change = 0; change < CHANGES; change++) seconds[change] = spent[change] / n;
+}
+
+// Seconds of one removal and of one put by each, as above.
+static void timed_turns(Turn *t, double engine[CHANGES], double sqlite[CHANGES]) {
+    double mine[CHANGES][BATCHES], theirs[CHANGES][BATCHES];
+    for (int b = -1; b < BATCHES; b++) {
+        batch_of_turns(turn_by_engine, t, engine);
+        batch_of_turns(turn_by_sqlite, t, sqlite);
+        for (int change = 0; 0 <= b && change < CHANGES; change++) {
+            mine[change][b] = engine[change];
+            theirs[change][b] = sqlite[change];
+        }
+    }
+    for (int change = 0; change < CHANGES; change++) {
+        engine[change] = median(mine[change]);
+        sqlite[change] = median(theirs[change]);
+    }
+}
+
+// ---- The report of answers --------------------------------------------------------------------------------------------------------------------------------
 
 typedef struct {
     double logarithms, longest;
@@ -686,6 +843,13 @@ static void count_query(Total *total, double engine, double sqlite) {
     total->logarithms += log(engine / sqlite);
     total->queries++;
     if (engine > total->longest) total->longest = engine;
+}
+
+static void count_total(Total *all, const Total *total) {
+    all->logarithms += total->logarithms;
+    all->queries += total->queries;
+    all->faults += total->faults;
+    if (total->longest > all->longest) all->longest = total->longest;
 }
 
 static double mean_of(const Total *total) { return exp(total->logarithms / total->queries); }
@@ -705,7 +869,7 @@ static bool agree(const Query *q, Work *w, Reply *reply) {
 static void report(const Query *q, const Store *store, sqlite3 *db, Total *total) {
     Work w = {.store = store};
     w.length = pack(q->formula, w.bytes);
-    if (sqlite3_prepare_v2(db, q->sql, -1, &w.statement, NULL) != SQLITE_OK) die(sqlite3_errmsg(db), q->name);
+    w.statement = prepared(db, q->sql);
     Reply reply;
     bool same = agree(q, &w, &reply);
     double engine, sqlite;
@@ -729,23 +893,178 @@ static void report_store(bool fine, const char *part, Total *all) {
     printf("  %-46s %8s %10s %10s %8s\n", "query", "rows", "engine us", "SQLite us", "ratio");
     for (size_t i = 0; i < query_count; i++)
         if (strstr(queries[i].name, part)) report(&queries[i], &store, db, &total);
-    if (total.queries == 0) die("no such query", part);
     printf("  %d queries: geometric mean %.2f times SQLite, longest %.3f ms\n\n", total.queries, mean_of(&total), 1e3 * total.longest);
     sqlite3_close(db);
-    all->logarithms += total.logarithms;
-    all->queries += total.queries;
-    all->faults += total.faults;
-    if (total.longest > all->longest) all->longest = total.longest;
+    count_total(all, &total);
 }
 
-int main(int argc, char **argv) {
+// Whether all is well: the rows are SQLite's and the reach is kept.
+static bool report_answers(const char *part) {
     Total all = {0};
-    menu();
-    for (int fine = 0; fine < 2; fine++) report_store(fine, argc > 1 ? argv[1] : "", &all);
-    bool reached = all.longest <= LONGEST && (argc > 1 || mean_of(&all) <= MEAN);  // the mean is judged over all queries only
+    for (int fine = 0; fine < 2; fine++) report_store(fine, part, &all);
+    bool reached = all.longest <= LONGEST && (*part || mean_of(&all) <= MEAN);  // the mean is judged over all queries only
     printf("Over both: geometric mean %.2f times SQLite (at most %.0f), longest %.3f ms (at most %.0f).\n", mean_of(&all), MEAN, 1e3 * all.longest,
            1e3 * LONGEST);
     printf("For endless queries SQLite decides whether a row with a number that no record has is there.\n");
-    printf("Rows %s SQLite's; the reach is %s.\n", all.faults ? "DIFFER from" : "equal", reached ? "kept" : "MISSED");
-    return all.faults == 0 && reached ? 0 : 1;
+    printf("Rows %s SQLite's; the reach is %s.\n\n", all.faults ? "DIFFER from" : "equal", reached ? "kept" : "MISSED");
+    return all.faults == 0 && reached;
+}
+
+// ---- The report of changes --------------------------------------------------------------------------------------------------------------------------------
+
+// The list of a query over a store. Over 512 rows none can be opened: an empty one stands for it, and a change that comes to so many rows is refused.
+static List opened_list(const Query *q, const Store *store, const uint8_t *bytes, size_t length) {
+    uint32_t rows[ROOM];
+    List list = {.columns = 0};
+    for (uint32_t x = 0; x < 16; x++)
+        if (is_free(q->formula, x)) list.variables[list.columns++] = (uint8_t)x;
+    Reply found = engine_find(store, bytes, length, rows);
+    if (found.refusal) die("refused", q->name);
+    list.endless = found.endless;
+    list.count = found.rows <= ROWS ? found.rows : 0;
+    for (size_t i = 0; i < list.count; i++) memcpy(&list.values[WIDTH * i], &rows[list.columns * i], list.columns * sizeof rows[0]);
+    return list;
+}
+
+// The place of the first record whose removal changes the rows, among those of relations that the query names; where there is none, of the first of those.
+static size_t telling_place(const Query *q, const Store *store, const uint8_t *bytes, size_t length) {
+    uint32_t all[ROOM] = {0}, fewer[ROOM] = {0};
+    uint64_t rows = engine_find(store, bytes, length, all).rows;
+    size_t first = PLACES;
+    for (size_t i = 0; i < store->count; i++) {
+        if (!names(q->formula, store->relations[i])) continue;
+        if (first == PLACES) first = i;
+        Store rest = without(store, i);
+        memcpy(fewer, all, sizeof all);
+        if (engine_find(&rest, bytes, length, fewer).rows != rows || memcmp(fewer, all, sizeof all) != 0) return i;
+    }
+    return first;
+}
+
+// Rows of k numbers, as SQLite gives them.
+typedef struct {
+    uint32_t numbers[ROOM];
+    size_t count, k;
+} Rows;
+
+static Rows rows_by_sqlite(const Query *q, sqlite3_stmt *statement) {
+    Rows rows = {.k = q->columns ? (size_t)sqlite3_column_count(statement) : 0};
+    rows.count = sqlite_find(statement, rows.numbers);
+    if (rows.count * rows.k > ROOM) die("too many rows", q->name);
+    return rows;
+}
+
+static bool has_row(const Rows *rows, const uint32_t *row) {
+    for (size_t i = 0; i < rows->count; i++)
+        if (memcmp(&rows->numbers[rows->k * i], row, rows->k * sizeof row[0]) == 0) return true;
+    return false;
+}
+
+// Whether the rows told are those of the first list that the second has not, in their order.
+static bool are_only_in(const Rows *a, const Rows *b, const uint32_t *told, size_t count) {
+    size_t n = 0;
+    for (size_t i = 0; i < a->count; i++) {
+        const uint32_t *row = &a->numbers[a->k * i];
+        if (has_row(b, row)) continue;
+        if (n == count || memcmp(&told[a->k * n], row, a->k * sizeof row[0]) != 0) return false;
+        n++;
+    }
+    return n == count;
+}
+
+// A change made by both, and whether they give the same: the rows that joined and left; or a refusal, by cause 17, of over 512 rows. An endless query stays
+// endless for SQLite too, and no row joins or leaves.
+static bool turns_alike(const Query *q, Turn *t, int change, Change *told) {
+    Rows before = rows_by_sqlite(q, t->statement);
+    sqlite_change(t->changes[change], &t->record);
+    Rows after = rows_by_sqlite(q, t->statement);
+    *told = engine_change(change, &t->stores[change], &t->lists[change], t->bytes, t->length, &t->record, t->joined, t->left);
+    if (q->endless) return before.numbers[0] == 1 && after.numbers[0] == 1 && t->lists[change].endless && told->refusal + told->joined + told->left == 0;
+    if (before.count > ROWS || after.count > ROWS) return told->refusal == (after.count > ROWS ? 17 : 0);
+    return !told->refusal && are_only_in(&after, &before, t->joined, told->joined) && are_only_in(&before, &after, t->left, told->left);
+}
+
+static Turn ready(const Query *q, const Store *store, sqlite3 *db) {
+    Turn t = {.length = 0};
+    t.length = pack(q->formula, t.bytes);
+    size_t place = telling_place(q, store, t.bytes, t.length);
+    t.record = record_at(store, place);
+    t.stores[REMOVAL] = *store;
+    t.stores[PUT] = without(store, place);
+    t.statement = prepared(db, q->sql);
+    for (int change = 0; change < CHANGES; change++) {
+        t.lists[change] = opened_list(q, &t.stores[change], t.bytes, t.length);
+        t.changes[change] = prepared_change(db, change, t.record.relation);
+    }
+    return t;
+}
+
+// The rows that a removal takes and brings (a put the reverse), and the times of both changes.
+static void print_times(Turn *t, const Change *removal, Total totals[CHANGES]) {
+    double engine[CHANGES], sqlite[CHANGES];
+    timed_turns(t, engine, sqlite);
+    printf(" %5u %5u", (unsigned)removal->left, (unsigned)removal->joined);
+    for (int change = 0; change < CHANGES; change++) {
+        printf(" %10.1f %10.1f %8.2f", 1e6 * engine[change], 1e6 * sqlite[change], engine[change] / sqlite[change]);
+        count_query(&totals[change], engine[change], sqlite[change]);
+    }
+}
+
+// Both changes of a record that matters for a query. Where they are refused, nothing is timed.
+static void report_turn(const Query *q, const Store *store, sqlite3 *db, Total totals[CHANGES]) {
+    static Turn t;
+    t = ready(q, store, db);
+    Change told[CHANGES];
+    bool same = true;
+    for (int change = 0; change < CHANGES; change++) same &= turns_alike(q, &t, change, &told[change]);
+    uint64_t refusal = told[REMOVAL].refusal ? told[REMOVAL].refusal : told[PUT].refusal;
+    printf("  %-46s", q->name);
+    if (refusal) printf(" %8s %u", "refused", (unsigned)refusal);
+    else print_times(&t, &told[REMOVAL], totals);
+    printf("%s\n", same ? "" : "  DIFFERS");
+    fflush(stdout);
+    totals[REMOVAL].faults += !same;
+    sqlite3_finalize(t.statement);
+    for (int change = 0; change < CHANGES; change++) sqlite3_finalize(t.changes[change]);
+}
+
+static void print_totals(const char *over, const Total totals[CHANGES]) {
+    if (totals[REMOVAL].queries == 0) return;
+    printf("%s%d queries: geometric mean of a removal %.2f times SQLite, of a put %.2f; longest %.3f ms and %.3f ms\n", over, totals[REMOVAL].queries,
+           mean_of(&totals[REMOVAL]), mean_of(&totals[PUT]), 1e3 * totals[REMOVAL].longest, 1e3 * totals[PUT].longest);
+}
+
+// A removal and a put for all queries whose name has the part, over one store.
+static void report_store_changes(bool fine, const char *part, Total all[CHANGES]) {
+    Store store = filled(fine);
+    sqlite3 *db = opened(&store);
+    Total totals[CHANGES] = {0};
+    printf("a removal from %zu records, %zu distinct values, and a put of the same record\n", store.count, distinct_values(&store));
+    printf("  %-46s %5s %5s %10s %10s %8s %10s %10s %8s\n", "query", "left", "join", "removal us", "SQLite us", "ratio", "put us", "SQLite us", "ratio");
+    for (size_t i = 0; i < query_count; i++)
+        if (strstr(queries[i].name, part)) report_turn(&queries[i], &store, db, totals);
+    print_totals("  ", totals);
+    printf("\n");
+    sqlite3_close(db);
+    for (int change = 0; change < CHANGES; change++) count_total(&all[change], &totals[change]);
+}
+
+// Whether all is well: the rows that joined and left are the difference of SQLite's.
+static bool report_changes(const char *part) {
+    Total all[CHANGES] = {0};
+    for (int fine = 0; fine < 2; fine++) report_store_changes(fine, part, all);
+    print_totals("Over both, ", all);
+    printf("A change that comes to over 512 rows is refused (cause 17), and not timed.\n");
+    bool same = all[REMOVAL].faults == 0;
+    printf("Rows that joined and left %s the difference of SQLite's.\n", same ? "are" : "DIFFER from");
+    return same;
+}
+
+int main(int argc, char **argv) {
+    bool changes_only = argc > 1 && strcmp(argv[1], "changes") == 0;
+    const char *part = argc > 1 + changes_only ? argv[1 + changes_only] : "";
+    menu();
+    if (!has_query(part)) die("no such query", part);
+    bool well = changes_only || report_answers(part);
+    return report_changes(part) && well ? 0 : 1;
 }

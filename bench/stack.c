@@ -1,6 +1,7 @@
-// The stack that an answer uses, on queries as deep as 64 nodes allow: the call runs on a painted stack, and what is no longer painted was used.
+// The stack that an answer, a put and a removal use, on queries as deep as 64 nodes allow: the calls run on a painted stack, and what is no longer painted was
+// used.
 //
-// Usage: stack. It fails where more than the bound of docs/ARCHITECTURE.md is used.
+// Usage: stack. It fails where more than the bounds of docs/ARCHITECTURE.md is used.
 #define _GNU_SOURCE
 #include <pthread.h>
 #include <stdbool.h>
@@ -13,13 +14,31 @@
 extern uint64_t palmrummy_find(const uint8_t *widths, const uint8_t *relations, const uint32_t *values, size_t count, const uint8_t *bytes, size_t length,
                                bool wanted, uint32_t *out, size_t room);
 
-enum { NODES = 64, STACK = 1 << 20, BOUND = 220 * 1024, ROOM = 4096, RECORDS = 2 };
+extern uint64_t palmrummy_change(const uint8_t *widths, const uint8_t *relations, const uint32_t *values, size_t count, const uint8_t *variables,
+                                 size_t columns, const uint32_t *rows, size_t held, bool endless, const uint64_t *counts, const uint8_t *bytes, size_t length,
+                                 bool removal, uint8_t relation, const uint32_t *tuple, uint32_t *joined, size_t joined_room, uint32_t *left,
+                                 size_t left_room);
+
+enum { NODES = 64, STACK = 1 << 20, BOUND = 220 * 1024, CHANGE_BOUND = 340 * 1024, ROOM = 4096, RECORDS = 2, NUMBERS = 2048 };
 
 static uint8_t widths[16] = {0, 2}, relations[256] = {1, 1};
-static uint32_t values[1024] = {0, 7, 0, 0, 7, 0, 0, 0}, out[ROOM];
+static uint32_t values[1024] = {0, 7, 0, 0, 7, 0, 0, 0}, out[ROOM], out_too[ROOM];
 static uint8_t bytes[2 + 4 * NODES];
 static size_t length;
-static uint64_t found;
+static size_t refused;
+
+// An empty list of the query's columns, which are the variables free in it.
+static uint8_t variables[4];
+static size_t columns;
+static uint32_t rows[NUMBERS];
+static uint64_t counts[3];
+
+static void set_columns(uint32_t free_variables) {
+    memset(variables, 0, sizeof variables);
+    columns = 0;
+    for (uint8_t x = 0; x < 16 && columns < sizeof variables; x++)
+        if (free_variables >> x & 1) variables[columns++] = x;
+}
 
 static void put(size_t at, uint32_t word) {
     for (int i = 0; i < 4; i++) bytes[at + (size_t)i] = (uint8_t)(word >> (24 - 8 * i));
@@ -28,7 +47,7 @@ static void put(size_t at, uint32_t word) {
 // A path of so many nodes above a record, by a pattern's letters in turn: n is a not, a and o an and and an or with a record of their own, e an exists that
 // binds the first variable of the last record. Records have two variables, each the next one's first.
 static void chain(const char *pattern, uint32_t nodes) {
-    uint32_t n = 0, variable = 0;
+    uint32_t n = 0, variable = 0, free_variables = 3;
     put(2, 1u << 29 | 1u << 25 | 2u << 22 | 0u << 17 | 1u << 12);
     for (size_t i = 0;; i++) {
         char kind = pattern[i % strlen(pattern)];
@@ -37,10 +56,12 @@ static void chain(const char *pattern, uint32_t nodes) {
         uint32_t child = n++;
         if (two) {
             variable = (variable + 15) % 16;
+            free_variables |= 1u << variable | 1u << (variable + 1) % 16;
             put(2 + 4 * (size_t)n, 1u << 29 | 1u << 25 | 2u << 22 | variable << 17 | (variable + 1) % 16 << 12);
             n++;
             put(2 + 4 * (size_t)n, (kind == 'a' ? 4u : 5u) << 29 | child << 23 | (n - 1) << 17);
         } else {
+            if (kind == 'e') free_variables &= ~(1u << (variable + 1) % 16);
             put(2 + 4 * (size_t)n, kind == 'e' ? 6u << 29 | (variable + 1) % 16 << 25 | child << 19 : 3u << 29 | child << 23);
         }
     }
@@ -48,17 +69,34 @@ static void chain(const char *pattern, uint32_t nodes) {
     bytes[0] = (uint8_t)(header >> 8);
     bytes[1] = (uint8_t)header;
     length = 2 + 4 * ((size_t)n + 1);
+    set_columns(free_variables);
 }
 
-static void *call(void *unused) {
+static bool is_refusal(uint64_t reply) { return reply > UINT64_C(1) << 63; }
+
+static void *answer(void *unused) {
     (void)unused;
     palmrummy_find(widths, relations, values, RECORDS, bytes, length, true, out, ROOM);
-    found = palmrummy_find(widths, relations, values, RECORDS, bytes, length, false, out, ROOM);
+    refused += is_refusal(palmrummy_find(widths, relations, values, RECORDS, bytes, length, false, out, ROOM));
     return NULL;
 }
 
-// The bytes of a painted stack that a call used.
-static size_t used(void) {
+// The last record removed, or another put past it.
+static uint64_t changed(bool removal) {
+    const uint32_t tuple[4] = {7, removal ? 0 : 7, 0, 0};
+    return palmrummy_change(widths, relations, values, RECORDS, variables, columns, rows, 0, false, counts, bytes, length, removal, 1, tuple, out, ROOM,
+                            out_too, ROOM);
+}
+
+static void *change(void *unused) {
+    (void)unused;
+    refused += is_refusal(changed(true));
+    refused += is_refusal(changed(false));
+    return NULL;
+}
+
+// The bytes of a painted stack that calls used.
+static size_t used(void *(*call)(void *)) {
     uint8_t *stack = mmap(NULL, STACK, PROT_READ | PROT_WRITE, MAP_PRIVATE | MAP_ANONYMOUS, -1, 0);
     if (stack == MAP_FAILED) exit(2);
     memset(stack, 0xA5, STACK);
@@ -76,14 +114,15 @@ static size_t used(void) {
 
 int main(void) {
     static const char *patterns[] = {"n", "ae", "aen", "ane", "oe", "oen", "one", "aenn", "anene", "aeone", "naen", "aeaen"};
-    size_t most = 0, refused = 0;
+    size_t most = 0, most_changed = 0;
     for (size_t p = 0; p < sizeof patterns / sizeof patterns[0]; p++)
         for (uint32_t nodes = 1; nodes <= NODES; nodes++) {
             chain(patterns[p], nodes);
-            size_t n = used();
-            refused += found > UINT64_C(1) << 63;
+            size_t n = used(answer), m = used(change);
             if (n > most) most = n;
+            if (m > most_changed) most_changed = m;
         }
-    printf("stack: at most %zu bytes used, with those of a thread's start; %zu refused (bound %d)\n", most, refused, (int)BOUND);
-    return most > BOUND || refused > 0;
+    printf("stack: at most %zu bytes used by an answer (bound %d), %zu by a change (bound %d), with those of a thread's start; %zu refused\n", most, (int)BOUND,
+           most_changed, (int)CHANGE_BOUND, refused);
+    return most > BOUND || most_changed > CHANGE_BOUND || refused > 0;
 }

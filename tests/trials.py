@@ -874,6 +874,7 @@ def named_run_cases():
         "5 columns": dict(one, columns=(5, (0, 1, 2, 3))),
         "a value past the columns": dict(one, places=[(9, 3, 0, 1)] + one["places"][1:]),
         "a place past the rows": dict(one, places=one["places"][:1] + [(0, 0, 0, 4)] + one["places"][2:]),
+        "its first value": dict(one, places=one["places"][:2] + [(4, 0, 0, 0)] + one["places"][3:]),
         "a variable past the columns": dict(one, columns=(2, (0, 1, 0, 7))),
         "rows not ascending": ledger.list_of([0, 1], [(9, 3), (9, 2)], False, 2, 0, 0),
         "a row twice": ledger.list_of([0, 1], [(9, 3), (9, 3)], False, 2, 0, 0),
@@ -883,6 +884,7 @@ def named_run_cases():
         "513 rows": dict(one, rows=513, counts=(513, 0, 0)),
     }.items():
         handed_in(f"12: {name}", THREE, WORKED, held, [put((2, 0, 0, 0, 0)), out(seven)], [12, 12], 3)
+    handed_in("12: no columns, and not column 0", THREE, words_bytes([R0, some(1, 0)]), ledger.NO_LIST, [put(nine)], [12])
     handed_in("1 before 12", THREE, b"", dict(one, rows=600), [put(seven)], [1], 1, [9] * 16)
     handed_in("7 before 12", THREE, nodes_with(n3=both(2, 2)), dict(one, rows=600), [put(seven)], [7], 1)
 
@@ -899,6 +901,9 @@ def large_run_cases():
     run_case("opened with 512 rows", Store(widths, full), full, product, [("p", (2, 50, 50, 0, 0), 0, 0)], expect=[17])
     over = sorted(full + [(2, 50, 50, 0, 0)])
     run_case("opening: 17 at 513 rows", Store(widths, over), over, product, [("r", (2, 50, 50, 0, 0), 0, 0)], expect=[])
+    last = ledger.list_of([0, 1], [(9, 3)], False, 1, 0, 0)
+    last["places"][511] = (1, 0, 0, 0)
+    handed_in("12: the last place", THREE, WORKED, last, [("r", (1, 7, 0, 0, 0), 9, 9)], [12], 512)
     cube = [(0, v, 0, 0, 0) for v in range(5)]
     four = words_bytes(joined([record(0, x) for x in range(4)]))
     grows = [("r", cube[4], 9, 2048), ("p", cube[4], 4095, 0), ("r", cube[3], 0, 699), ("r", cube[3], 0, 2048), ("p", cube[3], 699, 9), ("p", cube[3], 2048, 9)]

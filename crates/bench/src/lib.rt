@@ -1,12 +1,31 @@
-// The answers call as the benchmark makes it from C: over the arrays of a store, with one number returned.
+// The answers call, and a put or removal with its standing list, as the benchmark makes them from C: over the arrays of a store and of a list, with one number
+// returned.
 use causes::Answer;
 use causes::RELATIONS;
+use query::COLUMNS;
+use query::Columns;
+use standing::Change;
+use standing::NUMBERS;
+use standing::Rows;
+use standing::View;
 use tables::PLACES;
+use tables::Record;
 use tables::Store;
 use tables::VALUES;
 ghost use mathlib.Core.Path.{_≡_};
+ghost use Prim.Native.Nat.{_≤_};
 ghost use Rattle.answer.specs.Reply.{found-of};
-ghost use Rattle.bench.specs.Entry.{store-with, coded};
+ghost use Rattle.standing.specs.View.{max-rows};
+ghost use Rattle.standing.specs.Checks.{kind-of};
+ghost use Rattle.standing.specs.Change.{change-of};
+ghost use Rattle.bench.specs.Entry.{refusal, store-with, coded, view-with, record-with, coded-change};
+
+// A refusal as one number.
+fn refused(number: u8, place: u8) -> u64
+    ensures { λ r. ⌜ r ≡ refusal number place ⌝ }
+{
+    9223372036854775808 + 256 * number as u64 + place as u64
+}
 
 // The answer to the query that the bytes hold. The number of rows; or 2^63 for endless; or 2^63 + 256 × number + place for a refusal.
 #[no_mangle]
@@ -33,10 +52,92 @@ pub extern "C" fn palmrummy_find<'a>(
     let found = answer::find(store, bytes, wanted, out);
     let answer = found.answer;
     if let Answer::Refused(number, place) = answer {
-        return 9223372036854775808 + 256 * number as u64 + place as u64;
+        return refused(number, place);
     }
     if found.endless {
         return 9223372036854775808;
     }
     found.rows as u64
+}
+
+// A put, or a removal: at most 512 rows join, and at most 512 leave.
+fn change(
+    removal: bool,
+    store: Store,
+    view: View,
+    bytes: &[u8],
+    tuple: Record,
+    joined: &mut [u32],
+    left: &mut [u32],
+) -> Change
+    ensures { λ r. ⌜ (r, (now (joined .exit), now (left .exit))) ≡ change-of (kind-of removal) store view (now (bytes .entry)) tuple (now (joined .entry)) (now (left .entry)) ⌝ }
+    ensures { λ r. ⌜ (r .joined ≤ max-rows) × (r .left ≤ max-rows) ⌝ }
+{
+    if removal {
+        return standing::remove(store, view, bytes, tuple, joined, left);
+    }
+    standing::put(store, view, bytes, tuple, joined, left)
+}
+
+// A put or removal over a store and its list. The numbers of rows that joined and left, as joined + 65536 × left; or 2^63 + 256 × number + place for a refusal.
+// The new store and list are made, and not handed back.
+#[no_mangle]
+pub extern "C" fn palmrummy_change<'a>(
+    widths: &'a [u8; RELATIONS],
+    relations: &'a [u8; PLACES],
+    values: &'a [u32; VALUES],
+    count: usize,
+    variables: &'a [u8; COLUMNS],
+    columns: usize,
+    rows: &'a [u32; NUMBERS],
+    held: usize,
+    endless: bool,
+    counts: &'a [u64; 3],
+    bytes: &'a [u8],
+    removal: bool,
+    relation: u8,
+    tuple: &'a [u32; 4],
+    joined: &mut [u32],
+    left: &mut [u32],
+) -> u64
+    ensures { λ r. ⌜ (r, (now (joined .exit), now (left .exit))) ≡ coded-change (change-of (kind-of removal) (store-with (now (widths .entry)) (now (relations .entry)) (now (values .entry)) count) (view-with (now (variables .entry)) columns (now (rows .entry)) held endless (now (counts .entry))) (now (bytes .entry)) (record-with relation (now (tuple .entry))) (now (joined .entry)) (now (left .entry))) ⌝ }
+{
+    let w = *widths;
+    let r = *relations;
+    let v = *values;
+    let store = Store {
+        widths: w,
+        relations: r,
+        values: v,
+        count,
+    };
+    let c = *variables;
+    let n = *rows;
+    let view = View {
+        columns: Columns {
+            variables: c,
+            count: columns,
+        },
+        rows: Rows {
+            values: n,
+            count: held,
+        },
+        endless,
+        opening: counts[0],
+        joined: counts[1],
+        left: counts[2],
+    };
+    let record = Record {
+        relation,
+        first: tuple[0],
+        second: tuple[1],
+        third: tuple[2],
+        fourth: tuple[3],
+    };
+    let changed = change(removal, store, view, bytes, record, joined, left);
+    let answer = changed.answer;
+    if let Answer::Refused(number, place) = answer {
+        return refused(number, place);
+    }
+    changed.joined as u64 + 65536 * changed.left as u64
 }

@@ -12,7 +12,8 @@ use Rattle.calculus.specs.Sets.Laws.{union-append}
 use Rattle.calculus.specs.Rows.{Row}
 use Rattle.answer.specs.Listing.{numbers}
 use Rattle.standing.specs.View.{lines, stored, cut}
-use Rattle.standing.specs.View.Laws.{length-lines, getD-lines, line-taken, width-rows, length-numbers, stored-next, length-cut, cut-width, cut-next}
+use Rattle.answer.specs.Listing.Rows.{numbers-width}
+use Rattle.standing.specs.View.Laws.{length-lines, getD-lines, line-taken, width-rows, stored-next, length-cut, cut-width, cut-next}
 use Rattle.standing.specs.Change.{fronted}
 
 -- ---- numbers from one list to another
@@ -84,7 +85,7 @@ pub gather-next : (k i at : ℕ) (values before out : List ℕ) → k ≤ 4 → 
 gather-next k i at values before out few h e f g =
     ap (λ ns. paste ns at (drop (4 * i) values) k) g
     ∙ fronted-next (first-rows k i values) (take k (drop (4 * i) values)) before at k
-    (length-numbers k (first-rows k i values) (width-rows k i values few) ∙ ap (λ m. m * k) size ∙ sym f)
+    (numbers-width k (first-rows k i values) (width-rows k i values few) ∙ ap (λ m. m * k) size ∙ sym f)
     (length-take-le k (drop (4 * i) values) (omega (arith, length-drop (4 * i) values)))
     ∙ ap (λ rows. fronted rows before) (sym (first-next k i values few h e))
   where

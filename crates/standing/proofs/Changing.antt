@@ -1,5 +1,5 @@
--- What `put` and `remove` share: a call of either kind reads the query and judges the list, then changes the record, then settles; at each of the three it
--- comes to the reply of `change-of`, and what the next one asks for holds.
+-- A put or removal (`apply`) reads the query and judges the list, then alters the record, then settles; at each of the three it comes to the reply of
+-- `change-of`, and what the next one asks for holds.
 use Prim.Native.Nat.{ℕ, _≤_, _<_, _^_}
 use mathlib.Core.Path.{_≡_, refl, sym, ap, subst, subst⁻¹, _∙_}
 use mathlib.Core.List.{List, []}
@@ -9,27 +9,28 @@ use Rattle.calculus.specs.Reflects.{reflected}
 use Rattle.causes.specs.declared.Answer.{Answer}
 use Rattle.causes.specs.declared.Answer.the-variants.{Done, Refused}
 use Rattle.causes.specs.Causes.{Check, first-cause}
-use Rattle.causes.specs.Causes.Laws.{then-done, first-done, first-passed}
+use Rattle.causes.specs.Causes.Laws.{first-done, later-done, first-passed}
 use Rattle.tables.specs.declared.Record.{Record}
 use Rattle.tables.specs.declared.Store.{Store}
 use Rattle.tables.specs.declared.Changed.{Changed}
 use Rattle.tables.specs.Store.{capacity, held, judgement}
 use Rattle.tables.specs.Store.Laws.{reflects-layout, judged-layout}
-use Rattle.tables.specs.Change.{reply, insertion, deletion}
+use Rattle.tables.specs.Change.{reply}
 use Rattle.query.specs.declared.Reading.{Reading}
 use Rattle.query.specs.Reading.{formula}
 use Rattle.answer.specs.Reply.{query-read, Evaluable}
 use Rattle.standing.specs.declared.View.{View}
 use Rattle.standing.specs.declared.Change.{Change}
 use Rattle.standing.specs.View.{suits}
-use Rattle.standing.specs.Checks.{Kind, put, removal, view-checks, record-checks}
-use Rattle.standing.specs.Change.{begin-checks, ready-checks, refusal, store-after, change-of, readied, Suits, settled}
+use Rattle.standing.specs.Checks.{Kind, view-checks, record-checks}
+use Rattle.standing.specs.Change.{begin-checks, ready-checks, refusal, store-after, change-of, readied, Suits, altered, settled}
 use Rattle.standing.specs.Change.Laws.{begun-judged, begun-evaluable}
-use Rattle.standing.specs.Change.Stores.{inserted, deleted, after-judged}
+use Rattle.standing.specs.Change.Stores.{altered-is, after-judged}
 use Rattle.standing.specs.Change.Calls.{change-unready, change-refused, change-settled}
 
 -- A call of a kind, with what `ready` read.
-pub record Begun (kind : Kind) : Type 0 where
+pub record Begun : Type 0 where
+  pub kind : Kind
   pub store : Store
   pub view : View
   pub bytes : List ℕ
@@ -41,34 +42,24 @@ pub record Begun (kind : Kind) : Type 0 where
   pub constants-fit : (i : ℕ) → getD (reading .query .constants) i 0 < 2 ^ 32
 
 -- Its reply, and the buffers after it.
-abbrev pub replied : {kind : Kind} → Begun kind → Change × (List ℕ × List ℕ)
-replied {kind} b = change-of kind (b .store) (b .view) (b .bytes) (b .tuple) (b .joined) (b .left)
-
--- What the call of `tables` for that kind ensures.
-abbrev pub altered : Kind → Store → Record → Changed
-altered put s r = insertion s r
-altered removal s r = deletion s r
-
--- By the causes 13 to 16.
-altered-is : (kind : Kind) (s : Store) (r : Record) → judgement s ≡ Done → altered kind s r ≡ reply (first-cause (record-checks kind (s .widths) (held s) r)) s (store-after kind s r)
-altered-is put s r judged = inserted s r judged
-altered-is removal s r judged = deleted s r judged
+abbrev pub replied : Begun → Change × (List ℕ × List ℕ)
+replied b = change-of (b .kind) (b .store) (b .view) (b .bytes) (b .tuple) (b .joined) (b .left)
 
 -- A reply of `tables` carries its answer.
 reply-answer : (a : Answer) (s t : Store) → reply a s t .answer ≡ a
 reply-answer Done s t = refl
 reply-answer (Refused n p) s t = refl
 
-module _ {kind : Kind} (b : Begun kind) where
+module _ (b : Begun) where
   -- The columns of the query read, the causes 13 to 16, and the store after the change.
   abbrev cols : List ℕ
   cols = columns (formula (query-read (b .store) (b .bytes)))
 
   abbrev record-causes : List Check
-  record-causes = record-checks kind (b .store .widths) (held (b .store)) (b .tuple)
+  record-causes = record-checks (b .kind) (b .store .widths) (held (b .store)) (b .tuple)
 
   abbrev after : Store
-  after = store-after kind (b .store) (b .tuple)
+  after = store-after (b .kind) (b .store) (b .tuple)
 
   -- The answer read is the first of the causes 1 to 10 and 12.
   ready-cause : (a : Answer) → b .reading .answer ≡ a → first-cause (ready-checks (b .store) (b .view) (b .bytes)) ≡ a
@@ -78,7 +69,7 @@ module _ {kind : Kind} (b : Begun kind) where
   pub unready : {c : Change} (n p : ℕ) → b .reading .answer ≡ Refused n p → c ≡ refusal n p (b .store) (b .view) → (c, (b .joined, b .left)) ≡ replied b
   unready n p e f =
       ap (λ d. (d, (b .joined, b .left))) f
-      ∙ sym (change-unready kind (b .store) (b .view) (b .bytes) (b .tuple) (b .joined) (b .left) n p (ready-cause (Refused n p) e))
+      ∙ sym (change-unready (b .kind) (b .store) (b .view) (b .bytes) (b .tuple) (b .joined) (b .left) n p (ready-cause (Refused n p) e))
 
   module _ (done : b .reading .answer ≡ Done) where
     ready-done : first-cause (ready-checks (b .store) (b .view) (b .bytes)) ≡ Done
@@ -98,11 +89,11 @@ module _ {kind : Kind} (b : Begun kind) where
     pub list-suits : Suits (b .view) (b .reading .query)
     list-suits =
         subst⁻¹ (λ r. Suits (b .view) (r .query)) (b .reads)
-        (first-passed 12 (suits (b .view) cols) [] (sym (then-done (begin-checks (b .store) (b .bytes)) (view-checks (b .view) cols) begin-done) ∙ ready-done) .0)
+        (first-passed 12 (suits (b .view) cols) [] (later-done (begin-checks (b .store) (b .bytes)) (view-checks (b .view) cols) ready-done) .0)
 
-    module _ {changed : Changed} (changes : changed ≡ altered kind (b .store) (b .tuple)) where
+    module _ {changed : Changed} (changes : changed ≡ altered (b .kind) (b .store) (b .tuple)) where
       changed-is : changed ≡ reply (first-cause record-causes) (b .store) after
-      changed-is = changes ∙ altered-is kind (b .store) (b .tuple) store-judged
+      changed-is = changes ∙ altered-is (b .store) (b .tuple) store-judged (b .kind)
 
       -- The answer of `tables` is the first of the causes 13 to 16.
       record-cause : (a : Answer) → changed .answer ≡ a → first-cause record-causes ≡ a
@@ -112,7 +103,7 @@ module _ {kind : Kind} (b : Begun kind) where
       pub unchanged : {c : Change} (n p : ℕ) → changed .answer ≡ Refused n p → c ≡ refusal n p (b .store) (b .view) → (c, (b .joined, b .left)) ≡ replied b
       unchanged n p e f =
           ap (λ d. (d, (b .joined, b .left))) f
-          ∙ sym (change-refused kind (b .store) (b .view) (b .bytes) (b .tuple) (b .joined) (b .left) ready-done n p (record-cause (Refused n p) e))
+          ∙ sym (change-refused (b .kind) (b .store) (b .view) (b .bytes) (b .tuple) (b .joined) (b .left) ready-done n p (record-cause (Refused n p) e))
 
       module _ (altered-done : changed .answer ≡ Done) where
         store-is : changed .store ≡ after
@@ -125,10 +116,10 @@ module _ {kind : Kind} (b : Begun kind) where
             (subst⁻¹ (λ r. Evaluable after (r .query) (r .columns)) (b .reads)
             (begun-evaluable (b .store) (b .bytes) begin-done
             (subst (λ r. (i : ℕ) → getD (r .query .constants) i 0 < 2 ^ 32) (b .reads) (b .constants-fit))
-            after refl (after-judged (b .store) (b .tuple) store-judged kind (record-cause Done altered-done))))
+            after refl (after-judged (b .store) (b .tuple) store-judged (b .kind) (record-cause Done altered-done))))
 
         -- The reply is the one that `settle` comes to.
         pub settles : settled (b .store) (changed .store) (b .view) (b .reading .query) (b .joined) (b .left) ≡ replied b
         settles =
             (λ i. settled (b .store) (store-is i) (b .view) (b .reads i .query) (b .joined) (b .left))
-            ∙ sym (change-settled kind (b .store) (b .view) (b .bytes) (b .tuple) (b .joined) (b .left) ready-done (record-cause Done altered-done))
+            ∙ sym (change-settled (b .kind) (b .store) (b .view) (b .bytes) (b .tuple) (b .joined) (b .left) ready-done (record-cause Done altered-done))

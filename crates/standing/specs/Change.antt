@@ -12,7 +12,9 @@ use Rattle.causes.specs.declared.Answer.the-variants.{Done, Refused}
 use Rattle.causes.specs.Causes.{Check, check, first-cause, when}
 use Rattle.tables.specs.declared.Record.{Record}
 use Rattle.tables.specs.declared.Store.{Store}
+use Rattle.tables.specs.declared.Changed.{Changed}
 use Rattle.tables.specs.Store.{held, store-of, store-checks}
+use Rattle.tables.specs.Change.{insertion, deletion}
 use Rattle.query.specs.declared.Query.{Query}
 use Rattle.query.specs.declared.Reading.{Reading}
 use Rattle.query.specs.Reading.{formula, read-of, read-checks}
@@ -23,7 +25,7 @@ use Rattle.standing.specs.declared.Current.{Current}
 use Rattle.standing.specs.declared.Opened.{Opened}
 use Rattle.standing.specs.declared.Change.{Change}
 use Rattle.standing.specs.View.{rows-in, stored, kept, mark, view-of, suits}
-use Rattle.standing.specs.Checks.{Kind, view-checks, record-checks, records-after, is-over, report-checks}
+use Rattle.standing.specs.Checks.{Kind, put, removal, view-checks, record-checks, records-after, is-over, report-checks}
 pub mod Laws
 pub mod Stores
 pub mod Calls
@@ -127,6 +129,11 @@ readied s v bs = record { answer = first-cause (ready-checks s v bs); query = re
 -- The list suits the columns of an accepted query.
 abbrev pub Suits : View → Query → Type 0
 Suits v q = T (suits v (columns (formula q)))
+
+-- What the call of `tables` for a kind ensures.
+abbrev pub altered : Kind → Store → Record → Changed
+altered put s r = insertion s r
+altered removal s r = deletion s r
 
 -- The reply to a change that came to the store t.
 abbrev pub settled : Store → Store → View → Query → List ℕ → List ℕ → Change × (List ℕ × List ℕ)

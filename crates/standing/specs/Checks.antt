@@ -1,7 +1,7 @@
 -- Causes 12 to 17 and 19 as a put or removal judges them, and what it makes of the records. Each row of document 01's table has one definition, which the
 -- replies and the ledger use.
 use Prim.Native.Nat.{ℕ, _*_, _^_}
-use mathlib.Core.Bool.{Bool, not, _||_}
+use mathlib.Core.Bool.{Bool, true, false, not, _||_}
 use mathlib.Core.List.{List, [], _∷_}
 use lib.ListN.{length}
 use lib.Dec.{ltb, leb}
@@ -19,6 +19,11 @@ use Rattle.standing.specs.View.{max-rows, suits}
 pub data Kind : Type 0 where
   put : Kind
   removal : Kind
+
+-- The kind of a call that is told whether it removes.
+abbrev pub kind-of : Bool → Kind
+kind-of true = removal
+kind-of false = put
 
 -- Cause 12: not in the layout, or other columns.
 abbrev pub view-checks : View → List ℕ → List Check

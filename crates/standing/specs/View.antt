@@ -12,6 +12,7 @@ use Rattle.calculus.specs.Rows.{Row, row-below, Answers, endless, listed}
 use Rattle.query.specs.declared.Columns.{Columns}
 use Rattle.query.specs.Reading.{max-columns, columns-of}
 use Rattle.verdict.specs.Generating.{variables-in}
+use Rattle.standing.specs.declared.Line.{Line}
 use Rattle.standing.specs.declared.Rows.{Rows}
 use Rattle.standing.specs.declared.View.{View}
 pub mod Laws
@@ -106,14 +107,17 @@ cut k (suc n) xs = take k xs ∷ cut k n (drop k xs)
 abbrev pub InOrder : Rows → Type 0
 InOrder r = (r .count ≤ max-rows) × Ascending row-below (lines-held r)
 
--- Of the first m places of ys, from j on, p is the first whose row is not below that at place i of xs.
-abbrev pub Skipped : List ℕ → ℕ → ℕ → List ℕ → ℕ → ℕ → Type 0
-Skipped ys m j xs i p =
-    (j ≤ p) × (p ≤ m) × ((o : ℕ) → j ≤ o → o < p → T (row-below (line-at ys o) (line-at xs i))) × (p < m → ¬ T (row-below (line-at ys p) (line-at xs i)))
+-- The four values of a row that was read.
+abbrev pub values-of : Line → Row
+values-of x = x .first ∷ x .second ∷ x .third ∷ x .fourth ∷ []
 
--- Whether the row at place i of xs stands at place j of ys, of the first m.
-abbrev pub has-at : List ℕ → ℕ → ℕ → List ℕ → ℕ → Bool
-has-at ys m j xs i = ltb j m && same-list (line-at xs i) (line-at ys j)
+-- The rows before place j are below x,
+abbrev pub Passed : List Row → ℕ → Row → Type 0
+Passed ys j x = (o : ℕ) → o < j → T (row-below (getD ys o []) x)
+
+-- and the one at j, if any, is not: among ascending rows x can stand only there.
+abbrev pub Parted : List Row → ℕ → Row → Type 0
+Parted ys j x = Passed ys j x × (j < length ys → ¬ T (row-below (getD ys j []) x))
 
 -- The columns of an accepted query: at most four variables, ascending, with zeros in the places past them.
 pub record QueryColumns (c : Columns) : Type 0 where

@@ -2,7 +2,7 @@
 use crate::NUMBERS;
 use crate::ROWS;
 use crate::View;
-use crate::line;
+use crate::row;
 use query::Columns;
 ghost use mathlib.Core.Path.{_≡_};
 ghost use Prim.Native.Nat.{_+_, _≤_};
@@ -22,7 +22,7 @@ fn all_end(values: &[u32; NUMBERS], count: usize, k: usize) -> bool
 {
     let mut i = 0;
     while i < count {
-        if !line::ends_at(values, i, k) {
+        if !row::ends(row::read(values, i), k) {
             return false;
         }
         i += 1;
@@ -37,7 +37,7 @@ fn rest_zero(values: &[u32; NUMBERS], count: usize) -> bool
 {
     let mut i = count;
     while i < ROWS {
-        if !line::ends_at(values, i, 0) {
+        if !row::ends(row::read(values, i), 0) {
             return false;
         }
         i += 1;
@@ -52,7 +52,7 @@ fn all_ascend(values: &[u32; NUMBERS], count: usize) -> bool
 {
     let mut i = 1;
     while i < count {
-        if !line::below(values, i - 1, values, i) {
+        if !row::below(row::read(values, i - 1), row::read(values, i)) {
             return false;
         }
         i += 1;

@@ -1,14 +1,17 @@
 // Rows in their places, made of numbers one row after the other and turned into them, and the rows of one list that another has not. The lists have at most
 // 512 rows of at most four columns, as every list in the layout and every answer that passed cause 17.
+use crate::Line;
 use crate::NUMBERS;
 use crate::Rows;
-use crate::line;
+use crate::row;
 ghost use mathlib.Core.Path.{_≡_};
 ghost use mathlib.Core.List.{[], map};
-ghost use Prim.Native.Nat.{_*_, _≤_, _<_};
+ghost use Prim.Native.Nat.{_*_, _≤_};
 ghost use lib.ListN.{length, take};
-ghost use Rattle.calculus.specs.Rows.{only-in};
-ghost use Rattle.standing.specs.View.{max-rows, lines-held, stored, cut, InOrder, Skipped, has-at};
+ghost use Rattle.calculus.specs.Sets.{any-of, same-list};
+ghost use Rattle.calculus.specs.Order.{Ascending};
+ghost use Rattle.calculus.specs.Rows.{row-below, only-in};
+ghost use Rattle.standing.specs.View.{max-rows, lines, lines-held, stored, cut, InOrder, values-of, Passed, Parted};
 ghost use Rattle.standing.specs.Change.{fronted};
 
 pub fn none() -> Rows
@@ -29,21 +32,21 @@ pub fn spread(numbers: &[u32], k: usize, n: usize) -> Rows
     let mut i = 0;
     let mut at = 0;
     while i < n {
-        line::carry(numbers, at, k, &mut values, 4 * i);
+        row::carry(numbers, at, k, &mut values, 4 * i);
         at += k;
         i += 1;
     }
     Rows { values, count: n }
 }
 
-// The first place from j on, of the first m, whose row is not below that at place i of another list.
-fn skip<'a>(ys: &'a [u32; NUMBERS], m: usize, j: usize, xs: &'a [u32; NUMBERS], i: usize) -> usize
-    requires { ⌜ (i < max-rows) × (m ≤ max-rows) × (j ≤ m) ⌝ }
-    ensures { λ r. ⌜ Skipped (now (ys .entry)) m j (now (xs .entry)) i r ⌝ }
+// The first place from j on, of the first m, whose row is not below x; every row before j is.
+fn skip(ys: &[u32; NUMBERS], m: usize, j: usize, x: Line) -> usize
+    requires { ⌜ (m ≤ max-rows) × Passed (take m (lines (now ys))) j (values-of x) ⌝ }
+    ensures { λ r. ⌜ Parted (take m (lines (now (ys .entry)))) r (values-of x) ⌝ }
 {
     let mut p = j;
     while p < m {
-        if !line::below(ys, p, xs, i) {
+        if !row::below(row::read(ys, p), x) {
             return p;
         }
         p += 1;
@@ -51,15 +54,15 @@ fn skip<'a>(ys: &'a [u32; NUMBERS], m: usize, j: usize, xs: &'a [u32; NUMBERS], 
     p
 }
 
-// Whether the row at place i of a list stands at place j of another, of its first m.
-fn stands<'a>(ys: &'a [u32; NUMBERS], m: usize, j: usize, xs: &'a [u32; NUMBERS], i: usize) -> bool
-    requires { ⌜ (i < max-rows) × (m ≤ max-rows) ⌝ }
-    ensures { λ r. ⌜ r ≡ has-at (now (ys .entry)) m j (now (xs .entry)) i ⌝ }
+// Whether x is one of the first m rows, which are ascending: it can stand only at place j.
+fn stands(ys: &[u32; NUMBERS], m: usize, j: usize, x: Line) -> bool
+    requires { ⌜ (m ≤ max-rows) × Ascending row-below (take m (lines (now ys))) × Parted (take m (lines (now ys))) j (values-of x) ⌝ }
+    ensures { λ r. ⌜ r ≡ any-of (same-list (values-of x)) (take m (lines (now (ys .entry)))) ⌝ }
 {
     if m <= j {
         return false;
     }
-    line::same(xs, i, ys, j)
+    row::same(x, row::read(ys, j))
 }
 
 // The rows of the first list that the second has not; both are ascending.
@@ -76,9 +79,10 @@ pub fn only_in(a: Rows, b: Rows) -> Rows
     let mut i = 0;
     let mut j = 0;
     while i < n {
-        j = skip(&ys, m, j, &xs, i);
-        if !stands(&ys, m, j, &xs, i) {
-            line::carry(&xs, 4 * i, 4, &mut values, 4 * count);
+        let x = row::read(&xs, i);
+        j = skip(&ys, m, j, x);
+        if !stands(&ys, m, j, x) {
+            row::carry(&xs, 4 * i, 4, &mut values, 4 * count);
             count += 1;
         }
         i += 1;
@@ -96,7 +100,7 @@ pub fn gather(rows: Rows, k: usize, out: &mut [u32])
     let mut i = 0;
     let mut at = 0;
     while i < n {
-        line::carry(&values, 4 * i, k, out, at);
+        row::carry(&values, 4 * i, k, out, at);
         at += k;
         i += 1;
     }

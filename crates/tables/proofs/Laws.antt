@@ -4,15 +4,16 @@ use Prim.Native.Nat.{ℕ, zero, suc, _+_, _-_, _<_, _≤_}
 use native.Mathlib.Omega.{arith}
 use native.Mathlib.Numerals.{add-one}
 use mathlib.Core.Path.{_≡_, refl, sym, ap, subst⁻¹, _∙_}
-use mathlib.Core.Bool.{Bool, true, false, not, _&&_, _||_, cond}
+use mathlib.Core.Logic.{_≢_}
+use mathlib.Core.Bool.{Bool, true, false, not, _&&_, cond, and-false}
 use mathlib.Core.List.{List, [], _∷_, _++_}
-use lib.ListN.{length, getD, set, take, drop, drop-of-length-le, length-drop, length-set}
+use lib.ListN.{length, getD, set, take, drop, drop-of-length-le, length-set}
 use lib.Seq.{drop-cons}
 use lib.Dec.{eqb, ltb}
 use borrow.Author.Tests.{lt-ltb, le-ltb, le-leb, lt-leb, eq-eqb, ne-eqb, eqb-true, eqb-false, not-true, not-false}
 use Rattle.calculus.specs.Sets.{all-of, same-list}
 use Rattle.calculus.specs.Order.{is-ascending, lexicographic}
-use Rattle.calculus.specs.Lists.Laws.{all-drop}
+use Rattle.calculus.specs.Order.Laws.{below-differ, same-differ, below-agree, same-agree, below-at-first, same-at-first, below-at-second, same-at-second, below-at-third, same-at-third, below-at-fourth, same-at-fourth}
 use Rattle.causes.specs.declared.Answer.{Answer}
 use Rattle.causes.specs.declared.Answer.the-variants.{Done, Refused}
 use Rattle.causes.specs.Causes.{widths-fit}
@@ -27,91 +28,48 @@ use Rattle.tables.specs.Store.Places.{length-set-values, places-set, ins
 use Rattle.tables.specs.Change.{located, rank, found, raised, lowered, insertion, deletion}
 use Rattle.tables.specs.Fill.{beginning, merged, collected-into, collected}
 
--- ---- the order of number lists, and their sameness, from the front
-
-or-false : (b : Bool) → b ≡ b || false
-or-false true = refl
-or-false false = refl
-
-and-true : (b : Bool) → b ≡ b && true
-and-true true = refl
-and-true false = refl
-
-and-false : (b : Bool) → false ≡ b && false
-and-false true = refl
-and-false false = refl
-
--- The first numbers differ: they decide.
-lex-differ : (v w : ℕ) (vs ws : List ℕ) → (v ≡ w → ⊥) → ltb v w ≡ lexicographic (v ∷ vs) (w ∷ ws)
-lex-differ v w vs ws n = rw (ne-eqb v w n) (or-false (ltb v w))
-
--- They are the same: the rest decides.
-lex-agree : (v w : ℕ) (vs ws : List ℕ) → v ≡ w → lexicographic vs ws ≡ lexicographic (v ∷ vs) (w ∷ ws)
-lex-agree v w vs ws e = rw (le-ltb v w (omega arith), eq-eqb v w e)
-
-lex-last : (v w : ℕ) → ltb v w ≡ lexicographic (v ∷ []) (w ∷ [])
-lex-last v w = or-false (ltb v w) ∙ ap (λ (b : Bool). ltb v w || b) (and-false (eqb v w))
-
-same-differ : (v w : ℕ) (vs ws : List ℕ) → (v ≡ w → ⊥) → false ≡ same-list (v ∷ vs) (w ∷ ws)
-same-differ v w vs ws n = rw (ne-eqb v w n)
-
-same-agree : (v w : ℕ) (vs ws : List ℕ) → v ≡ w → same-list vs ws ≡ same-list (v ∷ vs) (w ∷ ws)
-same-agree v w vs ws e = rw (eq-eqb v w e)
-
-same-last : (v w : ℕ) → eqb v w ≡ same-list (v ∷ []) (w ∷ [])
-same-last v w = and-true (eqb v w)
+-- ---- the order of records, and their sameness, from the front
 
 module _ (a b : Record) where
-  pub below-relation : (a .relation ≡ b .relation → ⊥) → ltb (a .relation) (b .relation) ≡ record-below a b
-  below-relation n = lex-differ (a .relation) (b .relation) (values-of a) (values-of b) n
+  pub below-relation : a .relation ≢ b .relation → ltb (a .relation) (b .relation) ≡ record-below a b
+  below-relation n = below-differ (a .relation) (b .relation) (values-of a) (values-of b) n
 
-  pub same-relation : (a .relation ≡ b .relation → ⊥) → false ≡ same-record a b
+  pub same-relation : a .relation ≢ b .relation → false ≡ same-record a b
   same-relation n = same-differ (a .relation) (b .relation) (values-of a) (values-of b) n
 
+  -- Where the relations are the same, the four values decide.
   module _ (e : a .relation ≡ b .relation) where
     below-values : lexicographic (values-of a) (values-of b) ≡ record-below a b
-    below-values = lex-agree (a .relation) (b .relation) (values-of a) (values-of b) e
+    below-values = below-agree (a .relation) (b .relation) (values-of a) (values-of b) e
 
     same-values : same-list (values-of a) (values-of b) ≡ same-record a b
     same-values = same-agree (a .relation) (b .relation) (values-of a) (values-of b) e
 
-    pub below-first : (a .first ≡ b .first → ⊥) → ltb (a .first) (b .first) ≡ record-below a b
-    below-first n = lex-differ (a .first) (b .first) (a .second ∷ a .third ∷ a .fourth ∷ []) (b .second ∷ b .third ∷ b .fourth ∷ []) n ∙ below-values
+    pub below-first : a .first ≢ b .first → ltb (a .first) (b .first) ≡ record-below a b
+    below-first n = below-at-first (a .first) (a .second) (a .third) (a .fourth) (b .first) (b .second) (b .third) (b .fourth) n ∙ below-values
 
-    pub same-first : (a .first ≡ b .first → ⊥) → false ≡ same-record a b
-    same-first n = same-differ (a .first) (b .first) (a .second ∷ a .third ∷ a .fourth ∷ []) (b .second ∷ b .third ∷ b .fourth ∷ []) n ∙ same-values
+    pub same-first : a .first ≢ b .first → false ≡ same-record a b
+    same-first n = same-at-first (a .first) (a .second) (a .third) (a .fourth) (b .first) (b .second) (b .third) (b .fourth) n ∙ same-values
 
     module _ (f : a .first ≡ b .first) where
-      below-seconds : lexicographic (a .second ∷ a .third ∷ a .fourth ∷ []) (b .second ∷ b .third ∷ b .fourth ∷ []) ≡ record-below a b
-      below-seconds = lex-agree (a .first) (b .first) (a .second ∷ a .third ∷ a .fourth ∷ []) (b .second ∷ b .third ∷ b .fourth ∷ []) f ∙ below-values
+      pub below-second : a .second ≢ b .second → ltb (a .second) (b .second) ≡ record-below a b
+      below-second n = below-at-second (a .first) (a .second) (a .third) (a .fourth) (b .first) (b .second) (b .third) (b .fourth) f n ∙ below-values
 
-      same-seconds : same-list (a .second ∷ a .third ∷ a .fourth ∷ []) (b .second ∷ b .third ∷ b .fourth ∷ []) ≡ same-record a b
-      same-seconds = same-agree (a .first) (b .first) (a .second ∷ a .third ∷ a .fourth ∷ []) (b .second ∷ b .third ∷ b .fourth ∷ []) f ∙ same-values
-
-      pub below-second : (a .second ≡ b .second → ⊥) → ltb (a .second) (b .second) ≡ record-below a b
-      below-second n = lex-differ (a .second) (b .second) (a .third ∷ a .fourth ∷ []) (b .third ∷ b .fourth ∷ []) n ∙ below-seconds
-
-      pub same-second : (a .second ≡ b .second → ⊥) → false ≡ same-record a b
-      same-second n = same-differ (a .second) (b .second) (a .third ∷ a .fourth ∷ []) (b .third ∷ b .fourth ∷ []) n ∙ same-seconds
+      pub same-second : a .second ≢ b .second → false ≡ same-record a b
+      same-second n = same-at-second (a .first) (a .second) (a .third) (a .fourth) (b .first) (b .second) (b .third) (b .fourth) f n ∙ same-values
 
       module _ (g : a .second ≡ b .second) where
-        below-thirds : lexicographic (a .third ∷ a .fourth ∷ []) (b .third ∷ b .fourth ∷ []) ≡ record-below a b
-        below-thirds = lex-agree (a .second) (b .second) (a .third ∷ a .fourth ∷ []) (b .third ∷ b .fourth ∷ []) g ∙ below-seconds
+        pub below-third : a .third ≢ b .third → ltb (a .third) (b .third) ≡ record-below a b
+        below-third n = below-at-third (a .first) (a .second) (a .third) (a .fourth) (b .first) (b .second) (b .third) (b .fourth) f g n ∙ below-values
 
-        same-thirds : same-list (a .third ∷ a .fourth ∷ []) (b .third ∷ b .fourth ∷ []) ≡ same-record a b
-        same-thirds = same-agree (a .second) (b .second) (a .third ∷ a .fourth ∷ []) (b .third ∷ b .fourth ∷ []) g ∙ same-seconds
-
-        pub below-third : (a .third ≡ b .third → ⊥) → ltb (a .third) (b .third) ≡ record-below a b
-        below-third n = lex-differ (a .third) (b .third) (a .fourth ∷ []) (b .fourth ∷ []) n ∙ below-thirds
-
-        pub same-third : (a .third ≡ b .third → ⊥) → false ≡ same-record a b
-        same-third n = same-differ (a .third) (b .third) (a .fourth ∷ []) (b .fourth ∷ []) n ∙ same-thirds
+        pub same-third : a .third ≢ b .third → false ≡ same-record a b
+        same-third n = same-at-third (a .first) (a .second) (a .third) (a .fourth) (b .first) (b .second) (b .third) (b .fourth) f g n ∙ same-values
 
         pub below-fourth : a .third ≡ b .third → ltb (a .fourth) (b .fourth) ≡ record-below a b
-        below-fourth h = lex-last (a .fourth) (b .fourth) ∙ lex-agree (a .third) (b .third) (a .fourth ∷ []) (b .fourth ∷ []) h ∙ below-thirds
+        below-fourth h = below-at-fourth (a .first) (a .second) (a .third) (a .fourth) (b .first) (b .second) (b .third) (b .fourth) f g h ∙ below-values
 
         pub same-fourth : a .third ≡ b .third → eqb (a .fourth) (b .fourth) ≡ same-record a b
-        same-fourth h = same-last (a .fourth) (b .fourth) ∙ same-agree (a .third) (b .third) (a .fourth ∷ []) (b .fourth ∷ []) h ∙ same-thirds
+        same-fourth h = same-at-fourth (a .first) (a .second) (a .third) (a .fourth) (b .first) (b .second) (b .third) (b .fourth) f g h ∙ same-values
 
 -- ---- a record that fits, as the code tests it
 
@@ -131,14 +89,14 @@ second-past (suc (suc w)) a b c d h l n = absurd (omega arith)
 
 third-past : (w a b c d : ℕ) → 0 < w → w ≤ 2 → (c ≡ 0 → ⊥) → false ≡ all-of (eqb 0) (drop w (a ∷ b ∷ c ∷ d ∷ []))
 third-past zero a b c d h l n = absurd (omega arith)
-third-past (suc zero) a b c d h l n = rw (ne-eqb 0 c (λ e. n (sym e))) (and-false (eqb 0 b))
+third-past (suc zero) a b c d h l n = rw (ne-eqb 0 c (λ e. n (sym e))) (sym (and-false (eqb 0 b)))
 third-past (suc (suc zero)) a b c d h l n = rw (ne-eqb 0 c (λ e. n (sym e)))
 third-past (suc (suc (suc w))) a b c d h l n = absurd (omega arith)
 
 fourth-past : (w a b c d : ℕ) → 0 < w → w ≤ 3 → (d ≡ 0 → ⊥) → false ≡ all-of (eqb 0) (drop w (a ∷ b ∷ c ∷ d ∷ []))
 fourth-past zero a b c d h l n = absurd (omega arith)
-fourth-past (suc zero) a b c d h l n = rw (ne-eqb 0 d (λ e. n (sym e))) (and-false (eqb 0 b) ∙ ap (λ (t : Bool). eqb 0 b && t) (and-false (eqb 0 c)))
-fourth-past (suc (suc zero)) a b c d h l n = rw (ne-eqb 0 d (λ e. n (sym e))) (and-false (eqb 0 c))
+fourth-past (suc zero) a b c d h l n = rw (ne-eqb 0 d (λ e. n (sym e))) (sym (ap (λ (t : Bool). eqb 0 b && t) (and-false (eqb 0 c)) ∙ and-false (eqb 0 b)))
+fourth-past (suc (suc zero)) a b c d h l n = rw (ne-eqb 0 d (λ e. n (sym e))) (sym (and-false (eqb 0 c)))
 fourth-past (suc (suc (suc zero))) a b c d h l n = rw (ne-eqb 0 d (λ e. n (sym e)))
 fourth-past (suc (suc (suc (suc w)))) a b c d h l n = absurd (omega arith)
 
@@ -178,44 +136,6 @@ module _ (ws : List ℕ) (r : Record) where
         zero-by v e = eqb-true v 0 (not-false (eqb v 0) e)
 
 -- ---- what the records from place i on decide
-
--- A test of a record read at its place, as a test of the place.
-pub tested : {A : Type 0} (p : A → Bool) {x y : A} {b : Bool} → b ≡ p x → x ≡ y → p y ≡ b
-tested p e f = sym (e ∙ ap p f)
-
-pub tested-pair : {A : Type 0} (p : A → A → Bool) {w x y z : A} {b : Bool} → b ≡ p w x → w ≡ y → x ≡ z → p y z ≡ b
-tested-pair p e f g = sym (e ∙ (λ i. p (f i) (g i)))
-
-module _ (p : Record → Bool) (xs : List Record) (i : ℕ) where
-  pub all-stops : i < length xs → p (getD xs i blank) ≡ false → all-of p (drop i xs) ≡ false
-  all-stops h e = all-drop p xs i blank h ∙ rw e
-
-  pub all-goes : i < length xs → p (getD xs i blank) ≡ true → all-of p (drop i xs) ≡ all-of p (drop (i + 1) xs)
-  all-goes h e = all-drop p xs i blank h ∙ rw e
-
-  pub all-ends : length xs ≤ i → all-of p (drop i xs) ≡ true
-  all-ends h = ap (all-of p) (drop-of-length-le xs {i = i} h)
-
-module _ {A : Type 0} (below : A → A → Bool) (xs : List A) (i : ℕ) (d : A) (h : 0 < i) where
-  ascending-next : i < length xs → is-ascending below (drop (i - 1) xs) ≡ below (getD xs (i - 1) d) (getD xs i d) && is-ascending below (drop (i + 1 - 1) xs)
-  ascending-next l = go (i - 1) i (i + 1 - 1) (omega arith) (omega arith) l
-    where
-      go : (j k m : ℕ) → k ≡ suc j → m ≡ k → k < length xs → is-ascending below (drop j xs) ≡ below (getD xs j d) (getD xs k d) && is-ascending below (drop m xs)
-      go j k m e f s = rw (f, drop-cons xs j d (omega arith), e, drop-cons xs (suc j) d (omega arith))
-
-  pub ascending-stops : i < length xs → below (getD xs (i - 1) d) (getD xs i d) ≡ false → is-ascending below (drop (i - 1) xs) ≡ false
-  ascending-stops l e = ascending-next l ∙ rw e
-
-  pub ascending-goes : i < length xs → below (getD xs (i - 1) d) (getD xs i d) ≡ true → is-ascending below (drop (i - 1) xs) ≡ is-ascending below (drop (i + 1 - 1) xs)
-  ascending-goes l e = ascending-next l ∙ rw e
-
-  pub ascending-ends : length xs ≤ i → is-ascending below (drop (i - 1) xs) ≡ true
-  ascending-ends l = short (drop (i - 1) xs) (omega (arith, length-drop (i - 1) xs))
-    where
-      short : (ys : List A) → length ys ≤ 1 → is-ascending below ys ≡ true
-      short [] m = refl
-      short (y ∷ []) m = refl
-      short (y ∷ z ∷ ys) m = absurd (omega arith)
 
 module _ (r : Record) where
   module _ (xs : List Record) (i : ℕ) where

@@ -3,9 +3,6 @@ use borrow.Author.Needs.{needs}
 use Rattle.bench.specs.Entry.Laws.{coded-refused, coded-endless, coded-rows}
 use Rattle.bench.proofs.palmrummy_find.Statement.{statement}
 use Rattle.bench.proofs.palmrummy_find.Tie as tie
-use Rattle.bench.proofs.palmrummy_find.Reads as reads
-use Rattle.bench.proofs.palmrummy_find.Lts as lts
-use Rattle.answer.proofs.find.Reads as find-reads
 
 find-requires : tie.Need-find-requires
 find-requires c κs = search needs
@@ -13,26 +10,14 @@ find-requires c κs = search needs
 enum-known-answer : tie.Need-enum-known-answer
 enum-known-answer c = search needs
 
-cast-result : tie.Need-cast-result
-cast-result c = search needs
-
-mul-result : tie.Need-mul-result
-mul-result c = search needs
-
-add-result : tie.Need-add-result
-add-result c = search needs
-
-cast-result-2 : tie.Need-cast-result-2
-cast-result-2 c = search needs
-
-add-result-2 : tie.Need-add-result-2
-add-result-2 c = search needs
+refused-requires : tie.Need-refused-requires
+refused-requires c κs = search needs
 
 same-length : tie.Need-same-length
 same-length c = search needs
 
 returns : tie.Need-returns
-returns c = let a = c .before in coded-refused (a .before .before .before .before .find .ensures) _ _ (a .answer .given .1)
+returns c = let a = c .before .before in coded-refused (a .before .before .before .before .find .ensures) _ _ _ (a .answer .given .1) (c .refused .ensures)
 
 enum-told : tie.Need-enum-told
 enum-told c = search needs
@@ -55,11 +40,7 @@ palmrummy-find-spec =
     (tie.spec
     find-requires
     enum-known-answer
-    cast-result
-    mul-result
-    add-result
-    cast-result-2
-    add-result-2
+    refused-requires
     same-length
     returns
     enum-told

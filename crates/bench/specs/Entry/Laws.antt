@@ -1,18 +1,29 @@
--- The number returned, by what was found.
+-- The numbers returned, by what was found and by what a change told: the rows that joined and left are at most 512 each, since the rows found anew passed cause
+-- 17, and those held before are in the layout.
 use Prim.Native.Nat.{ℕ, _+_, _*_}
 use mathlib.Core.Path.{_≡_, sym, ap, _∙_}
 use mathlib.Core.Bool.{true, false, cond}
 use mathlib.Core.List.{List}
 use Rattle.causes.specs.declared.Answer.the-variants.{Done, Refused}
 use Rattle.answer.specs.declared.Found.{Found}
-use Rattle.bench.specs.Entry.{code, coded}
+use Rattle.standing.specs.declared.Change.{Change}
+use Rattle.bench.specs.Entry.{refusal, code, coded, change-code, coded-change}
 
 module _ {f : Found} {out : List ℕ} {x : Found × List ℕ} (e : (f, out) ≡ x) where
-  pub coded-refused : (n p : ℕ) → f .answer ≡ Refused n p → (9223372036854775808 + 256 * n + p, out) ≡ coded x
-  coded-refused n p a = ap (λ b. (code b (f .endless) (f .rows), out)) (sym a) ∙ ap coded e
+  pub coded-refused : (n p m : ℕ) → f .answer ≡ Refused n p → m ≡ refusal n p → (m, out) ≡ coded x
+  coded-refused n p m a r = ap (λ k. (k, out)) r ∙ ap (λ b. (code b (f .endless) (f .rows), out)) (sym a) ∙ ap coded e
 
   pub coded-endless : f .answer ≡ Done → f .endless ≡ true → (9223372036854775808, out) ≡ coded x
   coded-endless a b = ap (λ c. (cond c 9223372036854775808 (f .rows), out)) (sym b) ∙ ap (λ b. (code b (f .endless) (f .rows), out)) (sym a) ∙ ap coded e
 
   pub coded-rows : f .answer ≡ Done → f .endless ≡ false → (f .rows, out) ≡ coded x
   coded-rows a b = ap (λ c. (cond c 9223372036854775808 (f .rows), out)) (sym b) ∙ ap (λ b. (code b (f .endless) (f .rows), out)) (sym a) ∙ ap coded e
+
+-- ---- a change
+
+module _ {c : Change} {out : List ℕ × List ℕ} {x : Change × (List ℕ × List ℕ)} (e : (c, out) ≡ x) where
+  pub change-refused : (n p m : ℕ) → c .answer ≡ Refused n p → m ≡ refusal n p → (m, out) ≡ coded-change x
+  change-refused n p m a r = ap (λ k. (k, out)) r ∙ ap (λ b. (change-code b (c .joined) (c .left), out)) (sym a) ∙ ap coded-change e
+
+  pub change-done : c .answer ≡ Done → (c .joined + 65536 * c .left, out) ≡ coded-change x
+  change-done a = ap (λ b. (change-code b (c .joined) (c .left), out)) (sym a) ∙ ap coded-change e

@@ -4,8 +4,8 @@ use native.Mathlib.Omega.{arith}
 use mathlib.Core.Path.{_≡_, refl, ap, _∙_, sym}
 use native.Mathlib.Numerals.{add-one}
 use mathlib.Core.Bool.{Bool, _&&_, _||_, true, false, cond, or-true}
-use mathlib.Core.List.{List, [], _∷_, _++_}
-use lib.ListN.{length, getD, drop, replicate, length-append, length-replicate, take, set, List·getD-append}
+use mathlib.Core.List.{List, [], _∷_, _++_, map}
+use lib.ListN.{length, getD, drop, drop-of-length-le, replicate, length-append, length-replicate, take, set, List·getD-append}
 use lib.Seq.{drop-cons, take-append-add, ext-getD, set-at, append-snoc, set-append-seam}
 use Rattle.calculus.specs.Sets.{all-of, any-of, In, here, there, select}
 use Rattle.calculus.specs.Lists.{tabulate, padded}
@@ -34,6 +34,24 @@ module _ {A : Type 0} (p : A → Bool) (xs : List A) (i : ℕ) (d : A) (h : i < 
 
   pub any-drop : any-of p (drop i xs) ≡ p (getD xs i d) || any-of p (drop (i + 1) xs)
   any-drop = rw (add-one, drop-cons xs i d)
+
+module _ {A : Type 0} (p : A → Bool) (xs : List A) (i : ℕ) (d : A) where
+  -- The i-th element fails the test, or passes it, or there is none.
+  pub all-stops : i < length xs → p (getD xs i d) ≡ false → all-of p (drop i xs) ≡ false
+  all-stops h e = all-drop p xs i d h ∙ rw e
+
+  pub all-goes : i < length xs → p (getD xs i d) ≡ true → all-of p (drop i xs) ≡ all-of p (drop (i + 1) xs)
+  all-goes h e = all-drop p xs i d h ∙ rw e
+
+  pub all-ends : length xs ≤ i → all-of p (drop i xs) ≡ true
+  all-ends h = ap (all-of p) (drop-of-length-le xs {i = i} h)
+
+-- A test of what was read at a place, as a test of the place; and of two places.
+pub tested : {A : Type 0} (p : A → Bool) {x y : A} {b : Bool} → b ≡ p x → x ≡ y → p y ≡ b
+tested p e f = sym (e ∙ ap p f)
+
+pub tested-pair : {A : Type 0} (p : A → A → Bool) {w x y z : A} {b : Bool} → b ≡ p w x → w ≡ y → x ≡ z → p y z ≡ b
+tested-pair p e f g = sym (e ∙ (λ i. p (f i) (g i)))
 
 -- ---- copies of one element
 
@@ -68,6 +86,15 @@ select-all {A} p (x ∷ xs) h = go (p x) (h x (here refl)) (select-all p xs (λ 
 pub select-same : {A : Type 0} (p q : A → Bool) (xs : List A) → ((x : A) → In x xs → p x ≡ q x) → select p xs ≡ select q xs
 select-same p q [] h = refl
 select-same p q (x ∷ xs) h = λ j. cond (h x (here refl) j) (x ∷ select-same p q xs (λ y i. h y (there i)) j) (select-same p q xs (λ y i. h y (there i)) j)
+
+-- Selecting from mapped elements is mapping the selected.
+pub select-map : {A B : Type 0} (p : B → Bool) (f : A → B) (xs : List A) → select p (map f xs) ≡ map f (select (λ x. p (f x)) xs)
+select-map p f [] = refl
+select-map {A} {B} p f (x ∷ xs) = go (p (f x)) (select-map p f xs)
+  where
+    go : (b : Bool) → select p (map f xs) ≡ map f (select (λ y. p (f y)) xs) → cond b (f x ∷ select p (map f xs)) (select p (map f xs)) ≡ map f (cond b (x ∷ select (λ y. p (f y)) xs) (select (λ y. p (f y)) xs))
+    go true e = ap (λ r. f x ∷ r) e
+    go false e = e
 
 pub select-append : {A : Type 0} (p : A → Bool) (xs ys : List A) → select p (xs ++ ys) ≡ select p xs ++ select p ys
 select-append p [] ys = refl
@@ -149,7 +176,7 @@ module _ {A : Type 0} (p : A → Bool) (d : A) where
 -- ---- the first places of a list of copies are written over
 
 module _ {A : Type 0} where
-  drop-replicate : (n k : ℕ) (z : A) → drop k (replicate n z) ≡ replicate (n - k) z
+  pub drop-replicate : (n k : ℕ) (z : A) → drop k (replicate n z) ≡ replicate (n - k) z
   drop-replicate n zero z = rw sub-zero
   drop-replicate zero (suc k) z = rw zero-sub
   drop-replicate (suc n) (suc k) z = drop-replicate n k z ∙ rw suc-sub-suc

@@ -1,16 +1,17 @@
 -- Laws of ascending lists: an ascending list is settled by its members, and `sort` gives the one that has the members of a list.
 -- Of lists without an order: a list with no repeats is counted by its members.
-use Prim.Native.Nat.{ℕ, zero, suc, _+_, _<_, _≤_, zero-le, suc-le-suc}
+use Prim.Native.Nat.{ℕ, zero, suc, _+_, _-_, _<_, _≤_, zero-le, suc-le-suc}
 use native.Mathlib.Nat.{lt-irrefl, lt-trans, le-antisymm}
 use native.Mathlib.Omega.{arith}
 use mathlib.Core.Path.{_≡_, refl, sym, ap, subst, subst⁻¹, _∙_}
 use mathlib.Core.Logic.{_↔_, Iff·rfl, Iff·trans, _⊎_, inl, inr, _≢_}
-use mathlib.Core.Bool.{Bool, true, false, not, cond}
+use mathlib.Core.Bool.{Bool, true, false, not, _&&_, _||_, cond, and-true, and-false, or-false}
 use mathlib.Core.List.{List, [], _∷_}
-use lib.ListN.{length, getD}
-use lib.Seq.{take-all}
-use lib.Dec.{T, ltb}
-use Rattle.calculus.specs.Sets.{In, here, there, _⊆_, select}
+use lib.ListN.{length, getD, drop, length-drop}
+use lib.Seq.{take-all, drop-cons}
+use lib.Dec.{T, eqb, ltb}
+use borrow.Author.Tests.{le-ltb, eq-eqb, ne-eqb}
+use Rattle.calculus.specs.Sets.{In, here, there, _⊆_, select, same-list}
 use Rattle.calculus.specs.Sets.Laws.{in-nil, in-rest, subset-cons, same-cons, subset-swap, in-select, from-select}
 use Rattle.calculus.specs.Lists.Laws.{in-take}
 use Rattle.calculus.specs.Reflects.{Reflects, holds, fails, reflected, reflects, reflects-T, reflects-map, reflects-and, reflects-or, reflects-eqb, reflects-ltb}
@@ -292,6 +293,94 @@ module _ {A : Type 0} (below : A → A → Bool) where
       known : (z : A) → In z (x ∷ ys) → In z ys
       known z (here e) = subst⁻¹ (λ u. In u ys) e i
       known z (there j) = j
+
+-- ---- the order of number lists, and their sameness, from the front
+
+module _ (v w : ℕ) (vs ws : List ℕ) where
+  -- The first numbers differ: they decide.
+  pub below-differ : v ≢ w → ltb v w ≡ lexicographic (v ∷ vs) (w ∷ ws)
+  below-differ n = rw (ne-eqb v w n) (sym (or-false (ltb v w)))
+
+  pub same-differ : v ≢ w → false ≡ same-list (v ∷ vs) (w ∷ ws)
+  same-differ n = rw (ne-eqb v w n)
+
+  -- They are the same: the rest decides.
+  pub below-agree : v ≡ w → lexicographic vs ws ≡ lexicographic (v ∷ vs) (w ∷ ws)
+  below-agree e = rw (le-ltb v w (omega arith), eq-eqb v w e)
+
+  pub same-agree : v ≡ w → same-list vs ws ≡ same-list (v ∷ vs) (w ∷ ws)
+  same-agree e = rw (eq-eqb v w e)
+
+-- Lists of four: the first place where they differ decides; where the first three are the same, the fourth does.
+module _ (a b c d p q r s : ℕ) where
+  abbrev is-below : Bool
+  is-below = lexicographic (a ∷ b ∷ c ∷ d ∷ []) (p ∷ q ∷ r ∷ s ∷ [])
+
+  abbrev is-same : Bool
+  is-same = same-list (a ∷ b ∷ c ∷ d ∷ []) (p ∷ q ∷ r ∷ s ∷ [])
+
+  pub below-at-first : a ≢ p → ltb a p ≡ lexicographic (a ∷ b ∷ c ∷ d ∷ []) (p ∷ q ∷ r ∷ s ∷ [])
+  below-at-first n = below-differ a p (b ∷ c ∷ d ∷ []) (q ∷ r ∷ s ∷ []) n
+
+  pub same-at-first : a ≢ p → false ≡ same-list (a ∷ b ∷ c ∷ d ∷ []) (p ∷ q ∷ r ∷ s ∷ [])
+  same-at-first n = same-differ a p (b ∷ c ∷ d ∷ []) (q ∷ r ∷ s ∷ []) n
+
+  module _ (e : a ≡ p) where
+    below-from-second : lexicographic (b ∷ c ∷ d ∷ []) (q ∷ r ∷ s ∷ []) ≡ is-below
+    below-from-second = below-agree a p (b ∷ c ∷ d ∷ []) (q ∷ r ∷ s ∷ []) e
+
+    same-from-second : same-list (b ∷ c ∷ d ∷ []) (q ∷ r ∷ s ∷ []) ≡ is-same
+    same-from-second = same-agree a p (b ∷ c ∷ d ∷ []) (q ∷ r ∷ s ∷ []) e
+
+    pub below-at-second : b ≢ q → ltb b q ≡ lexicographic (a ∷ b ∷ c ∷ d ∷ []) (p ∷ q ∷ r ∷ s ∷ [])
+    below-at-second n = below-differ b q (c ∷ d ∷ []) (r ∷ s ∷ []) n ∙ below-from-second
+
+    pub same-at-second : b ≢ q → false ≡ same-list (a ∷ b ∷ c ∷ d ∷ []) (p ∷ q ∷ r ∷ s ∷ [])
+    same-at-second n = same-differ b q (c ∷ d ∷ []) (r ∷ s ∷ []) n ∙ same-from-second
+
+    module _ (f : b ≡ q) where
+      below-from-third : lexicographic (c ∷ d ∷ []) (r ∷ s ∷ []) ≡ is-below
+      below-from-third = below-agree b q (c ∷ d ∷ []) (r ∷ s ∷ []) f ∙ below-from-second
+
+      same-from-third : same-list (c ∷ d ∷ []) (r ∷ s ∷ []) ≡ is-same
+      same-from-third = same-agree b q (c ∷ d ∷ []) (r ∷ s ∷ []) f ∙ same-from-second
+
+      pub below-at-third : c ≢ r → ltb c r ≡ lexicographic (a ∷ b ∷ c ∷ d ∷ []) (p ∷ q ∷ r ∷ s ∷ [])
+      below-at-third n = below-differ c r (d ∷ []) (s ∷ []) n ∙ below-from-third
+
+      pub same-at-third : c ≢ r → false ≡ same-list (a ∷ b ∷ c ∷ d ∷ []) (p ∷ q ∷ r ∷ s ∷ [])
+      same-at-third n = same-differ c r (d ∷ []) (s ∷ []) n ∙ same-from-third
+
+      module _ (g : c ≡ r) where
+        pub below-at-fourth : ltb d s ≡ lexicographic (a ∷ b ∷ c ∷ d ∷ []) (p ∷ q ∷ r ∷ s ∷ [])
+        below-at-fourth = sym (ap (λ (x : Bool). ltb d s || x) (and-false (eqb d s)) ∙ or-false (ltb d s)) ∙ below-agree c r (d ∷ []) (s ∷ []) g ∙ below-from-third
+
+        pub same-at-fourth : eqb d s ≡ same-list (a ∷ b ∷ c ∷ d ∷ []) (p ∷ q ∷ r ∷ s ∷ [])
+        same-at-fourth = sym (and-true (eqb d s)) ∙ same-agree c r (d ∷ []) (s ∷ []) g ∙ same-from-third
+
+-- ---- whether a list ascends, decided by its elements from the one before the i-th on
+
+module _ {A : Type 0} (below : A → A → Bool) (xs : List A) (i : ℕ) (d : A) (h : 0 < i) where
+  -- The i-th element and the one before it.
+  ascending-next : i < length xs → is-ascending below (drop (i - 1) xs) ≡ below (getD xs (i - 1) d) (getD xs i d) && is-ascending below (drop (i + 1 - 1) xs)
+  ascending-next l = go (i - 1) i (i + 1 - 1) (omega arith) (omega arith) l
+    where
+      go : (j k m : ℕ) → k ≡ suc j → m ≡ k → k < length xs → is-ascending below (drop j xs) ≡ below (getD xs j d) (getD xs k d) && is-ascending below (drop m xs)
+      go j k m e f s = rw (f, drop-cons xs j d (omega arith), e, drop-cons xs (suc j) d (omega arith))
+
+  pub ascending-stops : i < length xs → below (getD xs (i - 1) d) (getD xs i d) ≡ false → is-ascending below (drop (i - 1) xs) ≡ false
+  ascending-stops l e = ascending-next l ∙ rw e
+
+  pub ascending-goes : i < length xs → below (getD xs (i - 1) d) (getD xs i d) ≡ true → is-ascending below (drop (i - 1) xs) ≡ is-ascending below (drop (i + 1 - 1) xs)
+  ascending-goes l e = ascending-next l ∙ rw e
+
+  pub ascending-ends : length xs ≤ i → is-ascending below (drop (i - 1) xs) ≡ true
+  ascending-ends l = short (drop (i - 1) xs) (omega (arith, length-drop (i - 1) xs))
+    where
+      short : (ys : List A) → length ys ≤ 1 → is-ascending below ys ≡ true
+      short [] m = refl
+      short (y ∷ []) m = refl
+      short (y ∷ z ∷ ys) m = absurd (omega arith)
 
 -- ---- places
 

@@ -115,6 +115,9 @@ first-done [] ds e = refl
 first-done (check n clear ∷ cs) ds e = first-done cs ds e
 first-done (check n (met p) ∷ cs) ds e = absurd (never-done e)
 
+pub later-done : (cs ds : List Check) → first-cause (cs ++ ds) ≡ Done → first-cause ds ≡ Done
+later-done cs ds e = sym (then-done cs ds (first-done cs ds e)) ∙ e
+
 -- Where no cause is met, the first check's test failed, or the test that it denies held.
 pub first-clear : (n : ℕ) (b : Bool) (cs : List Check) → first-cause (check n (when b) ∷ cs) ≡ Done → (b ≡ false) × (first-cause cs ≡ Done)
 first-clear n true cs e = absurd (never-done e)

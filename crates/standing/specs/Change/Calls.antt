@@ -1,24 +1,35 @@
 -- Laws of a put and a removal, for both kinds at once: the reply where the store, the query or the list is refused, where the record is, and where none is.
 -- The causes stand in the order of their numbers, so the first part that meets one decides.
-use Prim.Native.Nat.{ℕ}
-use mathlib.Core.Path.{_≡_, ap, subst, _∙_}
-use mathlib.Core.List.{List, _++_}
+use Prim.Native.Nat.{ℕ, _+_, _≤_}
+use native.Mathlib.Omega.{arith}
+use mathlib.Core.Path.{_≡_, refl, ap, subst, subst⁻¹, _∙_}
+use mathlib.Core.List.{List, [], _∷_, _++_}
 use lib.ListN.{length}
 use lib.Dec.{T}
+use borrow.Author.Tests.{ltb-false}
 use Rattle.calculus.specs.Generators.{columns}
 use Rattle.calculus.specs.Rows.{Answers}
 use Rattle.causes.specs.declared.Answer.{Answer}
 use Rattle.causes.specs.declared.Answer.the-variants.{Done, Refused}
 use Rattle.causes.specs.Causes.{Check, first-cause, is-done}
-use Rattle.causes.specs.Causes.Laws.{then-done, then-refused}
+use Rattle.causes.specs.Causes.Laws.{then-done, then-refused, first-done, later-done, first-passed}
 use Rattle.tables.specs.declared.Record.{Record}
 use Rattle.tables.specs.declared.Store.{Store}
 use Rattle.tables.specs.Store.{held}
 use Rattle.query.specs.Reading.{formula}
 use Rattle.answer.specs.Reply.{answers-to, query-read}
 use Rattle.standing.specs.declared.View.{View}
-use Rattle.standing.specs.Checks.{Kind, record-checks}
-use Rattle.standing.specs.Change.{refusal, turn-checks, turn-reply, store-after, ready-checks, change-of, settled}
+use Rattle.standing.specs.declared.Change.{Change}
+use Rattle.standing.specs.View.{rows-in, kept, suits}
+use Rattle.standing.specs.View.Difference.{only-in-fewer}
+use Rattle.standing.specs.View.Layout.{suited}
+use Rattle.standing.specs.Checks.{Kind, view-checks, record-checks, is-over}
+use Rattle.standing.specs.Change.Turn.{report-clear}
+use Rattle.standing.specs.Change.{joining, leaving, begin-checks, refusal, turn-checks, turn-reply, store-after, ready-checks, change-of, settled}
+
+-- At most 512 rows joined, and at most 512 left.
+abbrev pub FewTold : Change × (List ℕ × List ℕ) → Type 0
+FewTold x = (x .0 .joined ≤ 512) × (x .0 .left ≤ 512)
 
 -- A reply tells the answer that it was made for; so a refusal, whatever its cause, leaves the store, the list and both buffers.
 refusal-told : (a : Answer) (s t : Store) (v : View) (cols : List ℕ) (found : Answers) (first second : List ℕ) (n p : ℕ) → turn-reply a s t v cols found first second .0 .answer ≡ Refused n p → turn-reply a s t v cols found first second ≡ (refusal n p s v, (first, second))
@@ -53,3 +64,32 @@ module _ (kind : Kind) (s : Store) (v : View) (bs : List ℕ) (r : Record) (firs
     -- None of them is: the causes 17 to 19 are left.
     pub change-settled : first-cause (record-checks kind (s .widths) (held s) r) ≡ Done → change-of kind s v bs r first second ≡ settled s (store-after kind s r) v (query-read s bs) first second
     change-settled e = change-by (first-cause turn-causes) (then-done (ready-checks s v bs) (record-causes ++ turn-causes) ready ∙ then-done record-causes turn-causes e)
+
+  -- ---- how many rows are told
+
+  -- Where no cause is met, the rows held before and those found anew are at most 512; a list in memory has four column places.
+  few-rows : length (v .columns .variables) ≡ 4 → first-cause (ready-checks s v bs ++ (record-causes ++ turn-causes)) ≡ Done → (length (rows-in v) ≤ 512) × (length (kept (answers-to (store-after kind s r) (query-read s bs))) ≤ 512)
+  few-rows places e =
+      let cols : List ℕ = columns (formula (query-read s bs)) in
+      let found : Answers = answers-to (store-after kind s r) (query-read s bs) in
+      let j : ℕ = length (joining v found) in
+      let m : ℕ = length (leaving v found) in
+      let ready = first-done (ready-checks s v bs) (record-causes ++ turn-causes) e in
+      let turned = later-done record-causes turn-causes (later-done (ready-checks s v bs) (record-causes ++ turn-causes) e) in
+      let l = suited v cols places (first-passed 12 (suits v cols) [] (later-done (begin-checks s bs) (view-checks v cols) ready) .0) in (
+        subst⁻¹ (λ n. n ≤ 512) (l .count-is) (l .few-rows),
+        ltb-false 512 (length (kept found)) (report-clear (is-over (length (kept found))) (v .opening ∷ (v .joined + j) ∷ (v .left + m) ∷ []) (length cols) j m (length first) (length second) turned .0),
+      )
+
+  -- So at most 512 rows join, and at most 512 leave; a refusal tells none.
+  pub few-told : length (v .columns .variables) ≡ 4 → FewTold (change-of kind s v bs r first second)
+  few-told places = go (first-cause (ready-checks s v bs ++ (record-causes ++ turn-causes))) refl
+    where
+      go : (a : Answer) → first-cause (ready-checks s v bs ++ (record-causes ++ turn-causes)) ≡ a → FewTold (turn-reply a s (store-after kind s r) v (columns (formula (query-read s bs))) (answers-to (store-after kind s r) (query-read s bs)) first second)
+      go Done e =
+          let f = few-rows places e in
+          let found : Answers = answers-to (store-after kind s r) (query-read s bs) in
+          let j = only-in-fewer (kept found) (rows-in v) in
+          let l = only-in-fewer (rows-in v) (kept found) in
+          (omega (arith, f .1, j), omega (arith, f .0, l))
+      go (Refused n p) e = (omega arith, omega arith)

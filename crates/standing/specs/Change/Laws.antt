@@ -11,7 +11,7 @@ use Rattle.calculus.specs.Rows.{Answers}
 use Rattle.causes.specs.declared.Answer.{Answer}
 use Rattle.causes.specs.declared.Answer.the-variants.{Done, Refused}
 use Rattle.causes.specs.Causes.{Check, check, first-cause, when}
-use Rattle.causes.specs.Causes.Laws.{then-done, then-refused, first-done, first-clear}
+use Rattle.causes.specs.Causes.Laws.{then-done, then-refused, first-done, later-done, first-clear}
 use Rattle.tables.specs.declared.Store.{Store}
 use Rattle.tables.specs.Store.{store-checks, judgement}
 use Rattle.tables.specs.Store.Laws.{judged-layout}
@@ -37,7 +37,7 @@ module _ (s : Store) (bs : List ℕ) (done : first-cause (begin-checks s bs) ≡
 
   -- The query is accepted.
   reads : first-cause (read-checks (s .widths) bs) ≡ Done
-  reads = sym (then-done (store-checks s) (read-checks (s .widths) bs) begun-judged) ∙ done
+  reads = later-done (store-checks s) (read-checks (s .widths) bs) done
 
   pub begun-read : read-of (s .widths) bs .answer ≡ Done
   begun-read = ap (λ a. read-reply a (constants-of bs) (nodes-of bs) .answer) reads
@@ -47,8 +47,7 @@ module _ (s : Store) (bs : List ℕ) (done : first-cause (begin-checks s bs) ≡
   column-check =
       let trees : List Check = tree-checks (s .widths) (count-of-constants bs) (nodes-of bs) in
       let rest : List Check = trees ++ column-checks (nodes-of bs) in
-      let after : first-cause rest ≡ Done = sym (then-done (header-checks (s .widths) bs) rest (first-done (header-checks (s .widths) bs) rest reads)) ∙ reads in
-      sym (then-done trees (column-checks (nodes-of bs)) (first-done trees (column-checks (nodes-of bs)) after)) ∙ after
+      later-done trees (column-checks (nodes-of bs)) (later-done (header-checks (s .widths) bs) rest reads)
 
   pub begun-few : length (columns (formula (query-read s bs))) ≤ 4
   begun-few = subst⁻¹ (λ φ. length (columns φ) ≤ max-columns) (read-formula (s .widths) bs begun-read) (ltb-false max-columns (length (columns (root (nodes-of bs)))) (first-clear 10 _ [] column-check .0))

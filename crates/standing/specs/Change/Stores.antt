@@ -14,10 +14,10 @@ use Rattle.tables.specs.declared.Changed.{Changed}
 use Rattle.tables.specs.Records.{fits}
 use Rattle.tables.specs.Store.{capacity, held, store-checks, judgement}
 use Rattle.tables.specs.Store.Laws.{Layout, reflects-layout, length-held, judged-layout}
-use Rattle.tables.specs.Change.{is-held, reply, insertion, deletion, put-reply, removal-reply}
+use Rattle.tables.specs.Change.{is-held, reply, put-reply, removal-reply}
 use Rattle.tables.specs.Change.Laws.{put-checks, insertion-put, deletion-removal, put-layout, put-held, removal-layout, removal-held}
 use Rattle.standing.specs.Checks.{Kind, put, removal, record-checks, records-after}
-use Rattle.standing.specs.Change.{store-after}
+use Rattle.standing.specs.Change.{store-after, altered}
 
 -- A store in the layout is judged so.
 well-judged : (s : Store) → T (widths-fit (s .widths)) → Layout s → judgement s ≡ Done
@@ -52,11 +52,10 @@ module _ (s : Store) (r : Record) (judged : judgement s ≡ Done) where
       (sym (length-held s (reflected (reflects-layout s) (judged-layout s judged .1) .count-fits)))
   tables-replies removal = past-judgement (record-checks removal (s .widths) (held s) r) (store-after removal s r)
 
-  pub inserted : insertion s r ≡ reply (first-cause (record-checks put (s .widths) (held s) r)) s (store-after put s r)
-  inserted = let l = judged-layout s judged in insertion-put s r (l .0) (l .1) ∙ tables-replies put
-
-  pub deleted : deletion s r ≡ reply (first-cause (record-checks removal (s .widths) (held s) r)) s (store-after removal s r)
-  deleted = let l = judged-layout s judged in deletion-removal s r (l .0) (l .1) ∙ tables-replies removal
+  -- What the code asks of `tables` for a kind comes to the same.
+  pub altered-is : (kind : Kind) → altered kind s r ≡ reply (first-cause (record-checks kind (s .widths) (held s) r)) s (store-after kind s r)
+  altered-is put = let l = judged-layout s judged in insertion-put s r (l .0) (l .1) ∙ tables-replies put
+  altered-is removal = let l = judged-layout s judged in deletion-removal s r (l .0) (l .1) ∙ tables-replies removal
 
   -- The store after a change.
   module _ (kind : Kind) (done : first-cause (record-checks kind (s .widths) (held s) r) ≡ Done) where

@@ -15,7 +15,7 @@ use Rattle.calculus.specs.Rows.{Row, row-below, Answers, endless, only-in}
 use Rattle.causes.specs.declared.Answer.{Answer as Outcome}
 use Rattle.causes.specs.declared.Answer.the-variants.{Done, Refused}
 use Rattle.causes.specs.Causes.{Check, check, first-cause, when, is-done}
-use Rattle.causes.specs.Causes.Laws.{then-done, then-refused, first-done, first-clear}
+use Rattle.causes.specs.Causes.Laws.{then-done, then-refused, first-done, later-done, first-clear}
 use Rattle.tables.specs.declared.Store.{Store}
 use Rattle.tables.specs.Store.{held, judgement, store-checks}
 use Rattle.query.specs.declared.Query.{Query}
@@ -323,9 +323,9 @@ opening-standing bs s v opened =
       state =
           record {
             judged = begun-judged s bs begun;
-            read = sym (then-done (store-checks s) (read-checks (s .widths) bs) (begun-judged s bs begun)) ∙ begun;
+            read = later-done (store-checks s) (read-checks (s .widths) bs) begun;
             query-is = refl;
-            few = ltb-false 512 (length (kept found)) (first-clear 17 (is-over (length (kept found))) [] (sym (then-done (begin-checks s bs) (over-checks found) begun) ∙ accepted .0) .0);
+            few = ltb-false 512 (length (kept found)) (first-clear 17 (is-over (length (kept found))) [] (later-done (begin-checks s bs) (over-checks found) (accepted .0)) .0);
             balanced = opens-balanced q s (opening-ledger q s) (opening-opens q s);
           };
       ledger-is = refl;

@@ -6,20 +6,21 @@ use native.Mathlib.Numerals.{add-one}
 use native.Mathlib.Omega.{arith}
 use mathlib.Core.Path.{_≡_, refl, sym, ap, subst, subst⁻¹, _∙_}
 use mathlib.Core.Logic.{_⊎_, inl, inr}
-use mathlib.Core.Bool.{Bool, true, false, not, cond, _&&_, _||_}
+use mathlib.Core.Bool.{true, false, not, cond, _&&_, _||_}
 use mathlib.Core.List.{List, [], _∷_, _++_, map, append-nil}
 use lib.ListN.{length, getD, take, replicate}
 use lib.Seq.{take-suc, take-length, take-append-seam}
 use lib.Dec.{T, eqb, ltb}
 use Rattle.calculus.specs.Reflects.{reflected, reflects, reflects-T, reflects-false, reflects-same, reflects-and, reflects-ltb, decided}
-use Rattle.calculus.specs.Sets.{In, here, there, any-of, select, same-list}
+use Rattle.calculus.specs.Sets.{In, here, there, any-of, same-list}
 use Rattle.calculus.specs.Sets.Laws.{in-map, from-map, from-select, reflects-same-list}
 use Rattle.calculus.specs.Lists.{padded}
-use Rattle.calculus.specs.Lists.Laws.{select-same, select-append, place-of, in-take}
+use Rattle.calculus.specs.Lists.Laws.{select-same, select-append, place-of, in-take, select-map}
 use Rattle.calculus.specs.Order.{Ascending, is-ascending, leads}
 use Rattle.calculus.specs.Order.Laws.{below-differs, reflects-ascending, ascending-at, select-length}
 use Rattle.calculus.specs.Rows.{Row, row-below, only-in}
 use Rattle.calculus.specs.Rows.Laws.{row-order, reflects-in-rows}
+use Rattle.standing.specs.View.{Parted}
 use Rattle.standing.specs.View.Laws.{Width}
 
 -- ---- rows filled up with zeros
@@ -42,15 +43,6 @@ padded-same v w e p =
     ∙ ap (take (length v)) p
     ∙ ap (λ k. take k (padded 4 0 w)) e
     ∙ take-append-seam w (replicate (4 - length w) 0)
-
--- The elements of a mapped list that pass a test.
-select-map : {A B : Type 0} (p : B → Bool) (f : A → B) (xs : List A) → select p (map f xs) ≡ map f (select (λ x. p (f x)) xs)
-select-map p f [] = refl
-select-map {A} {B} p f (x ∷ xs) = go (p (f x)) (select-map p f xs)
-  where
-    go : (b : Bool) → select p (map f xs) ≡ map f (select (λ y. p (f y)) xs) → cond b (f x ∷ select p (map f xs)) (select p (map f xs)) ≡ map f (cond b (x ∷ select (λ y. p (f y)) xs) (select (λ y. p (f y)) xs))
-    go true e = ap (λ r. f x ∷ r) e
-    go false e = e
 
 -- Rows of one width, filled up.
 module _ (k : ℕ) where
@@ -91,14 +83,9 @@ only-in-fewer xs ys = omega (arith, select-length (λ u. not (any-of (same-list 
 
 -- ---- a walk up two ascending lists
 
--- The rows before place j are below the row, and the one at j, if any, is not.
-pub record Parted (x : Row) (ys : List Row) (j : ℕ) : Type 0 where
-  pub under : (o : ℕ) → o < j → T (row-below (getD ys o []) x)
-  pub stops : j < length ys → ¬ T (row-below (getD ys j []) x)
-
--- It is among ascending rows where it stands at that place.
-pub parted-in : (x : Row) (ys : List Row) (j : ℕ) → Ascending row-below ys → Parted x ys j → any-of (same-list x) ys ≡ ltb j (length ys) && same-list x (getD ys j [])
-parted-in x ys j a p = reflects-same (reflects-in-rows x ys) (reflects-and (reflects-ltb j (length ys)) (reflects-same-list x (getD ys j []))) there-only stands
+-- A row is among ascending rows where it stands at the place that parts those below it from the others.
+pub parted-in : (ys : List Row) (j : ℕ) (x : Row) → Ascending row-below ys → Parted ys j x → any-of (same-list x) ys ≡ ltb j (length ys) && same-list x (getD ys j [])
+parted-in ys j x a p = reflects-same (reflects-in-rows x ys) (reflects-and (reflects-ltb j (length ys)) (reflects-same-list x (getD ys j []))) there-only stands
   where
     Stands : Type 0
     Stands = (j < length ys) × (x ≡ getD ys j [])
@@ -108,8 +95,8 @@ parted-in x ys j a p = reflects-same (reflects-in-rows x ys) (reflects-and (refl
 
     -- Before it all are below, after it all are above.
     at-place : (o : ℕ) → o < length ys → x ≡ getD ys o [] → (o < j) ⊎ (¬ (o < j)) → (j < o) ⊎ (¬ (j < o)) → Stands
-    at-place o l e (inl h) r = absurd (below-differs row-below row-order (getD ys o []) x (p .under o h) (sym e))
-    at-place o l e (inr n) (inl h) = absurd (p .stops (omega arith) (subst⁻¹ (λ u. T (row-below (getD ys j []) u)) e (ascending-at row-below [] a j o h l)))
+    at-place o l e (inl h) r = absurd (below-differs row-below row-order (getD ys o []) x (p .0 o h) (sym e))
+    at-place o l e (inr n) (inl h) = absurd (p .1 (omega arith) (subst⁻¹ (λ u. T (row-below (getD ys j []) u)) e (ascending-at row-below [] a j o h l)))
     at-place o l e (inr n) (inr m) = let q : o ≡ j = omega arith in (omega arith, e ∙ ap (λ k. getD ys k []) q)
 
     there-only : In x ys → Stands

@@ -2,7 +2,7 @@
 -- The values of stored rows are the numbers of 512 lines of four, and a list of lines is got back from its numbers.
 use Prim.Native.Nat.{ℕ, zero, suc, _+_, _*_, _-_, _≤_, _<_}
 use native.Mathlib.Omega.{arith}
-use native.Mathlib.Nat.{zero-mul, suc-mul, sub-zero, zero-sub, suc-sub-suc}
+use native.Mathlib.Nat.{zero-mul, suc-mul}
 use mathlib.Core.Path.{_≡_, refl, sym, ap, _∙_}
 use mathlib.Core.Logic.{⊎-elim}
 use mathlib.Core.List.{List, [], _∷_, _++_, map, map-append, append-assoc, append-nil}
@@ -11,9 +11,10 @@ use lib.Seq.{length-take-le, drop-cons, drop-drop, drop-append-le, append-snoc, 
 use Rattle.calculus.specs.Sets.{In, here, there, union-of}
 use Rattle.calculus.specs.Sets.Laws.{in-append, in-nil, from-map, union-append}
 use Rattle.calculus.specs.Lists.{tabulate, padded}
-use Rattle.calculus.specs.Lists.Laws.{length-tabulate, getD-tabulate, length-padded, from-tabulate, tabulate-same}
+use Rattle.calculus.specs.Lists.Laws.{length-tabulate, getD-tabulate, length-padded, from-tabulate, tabulate-same, drop-replicate}
 use Rattle.calculus.specs.Rows.{Row}
 use Rattle.answer.specs.Listing.{numbers}
+use Rattle.answer.specs.Listing.Rows.{numbers-width}
 use Rattle.standing.specs.View.{line-at, lines, lines-held, lines-unused, stored, cut}
 
 -- Every row has k values.
@@ -51,16 +52,16 @@ from-first : {w : Row} (n : ℕ) (rows : List Row) → In w (take n rows) → In
 from-first (suc n) (r ∷ rows) (here e) = here e
 from-first (suc n) (r ∷ rows) (there i) = there (from-first n rows i)
 
--- Every line has four values.
-pub width-lines : (vs : List ℕ) → Width 4 (lines vs)
+-- Every line has four values, also of the first n.
+pub width-first : (n : ℕ) (vs : List ℕ) → Width 4 (take n (lines vs))
 unfolding lines
-width-lines vs w i = ap length (from-tabulate (line-at vs) 512 i .2)
+width-first n vs w i = ap length (from-tabulate (line-at vs) 512 (from-first n (lines vs) i) .2)
 
 -- Cut to k values, each has k of them.
 pub width-rows : (k n : ℕ) (vs : List ℕ) → k ≤ 4 → Width k (map (take k) (take n (lines vs)))
 width-rows k n vs few w i =
     let r = from-map (take k) (take n (lines vs)) i in
-    ap length (r .2) ∙ length-take-le k (r .0) (omega (arith, width-lines vs (r .0) (from-first n (lines vs) (r .1))))
+    ap length (r .2) ∙ length-take-le k (r .0) (omega (arith, width-first n vs (r .0) (r .1)))
 
 -- ---- the numbers of lines
 
@@ -83,12 +84,6 @@ tabulated-numbers (q ∷ qs) w =
 pub lines-numbers : (qs : List Row) → Width 4 qs → length qs ≡ 512 → lines (numbers qs) ≡ qs
 unfolding lines
 lines-numbers qs w e = ap (tabulate (line-at (numbers qs))) (sym e) ∙ tabulated-numbers qs w
-
--- Rows of k values have k numbers each.
-pub length-numbers : (k : ℕ) (rows : List Row) → Width k rows → length (numbers rows) ≡ length rows * k
-length-numbers k [] w = sym (zero-mul k)
-length-numbers k (r ∷ rows) w =
-    length-append r (numbers rows) ∙ omega (arith, w r (here refl), length-numbers k rows (λ u i. w u (there i)), suc-mul (length rows) k)
 
 -- ---- rows as they are stored
 
@@ -120,11 +115,6 @@ stored-none = refl
 in-replicate : (n : ℕ) (r : Row) {w : Row} → In w (replicate n r) → w ≡ r
 in-replicate (suc n) r (here e) = e
 in-replicate (suc n) r (there i) = in-replicate n r i
-
-drop-replicate : (n k z : ℕ) → drop k (replicate n z) ≡ replicate (n - k) z
-drop-replicate n zero z = rw sub-zero
-drop-replicate zero (suc k) z = rw zero-sub
-drop-replicate (suc n) (suc k) z = drop-replicate n k z ∙ rw suc-sub-suc
 
 -- Numbers written over the first of those in the middle.
 middle-written : (before middle after r : List ℕ) (a k : ℕ) → length before ≡ a → k ≤ length middle → take a (before ++ (middle ++ after)) ++ r ++ drop (a + k) (before ++ (middle ++ after)) ≡ before ++ (r ++ drop k middle ++ after)
@@ -170,7 +160,7 @@ module _ (k : ℕ) (few : k ≤ 4) (rows : List Row) (h : length rows ≤ 512) (
 
   -- They take all places.
   pub length-stored : length (stored rows .values) ≡ 2048
-  length-stored = ap length (values-filled rows) ∙ length-numbers 4 (filled rows) width-all ∙ ap (λ n. n * 4) length-filled
+  length-stored = ap length (values-filled rows) ∙ numbers-width 4 (filled rows) width-all ∙ ap (λ n. n * 4) length-filled
 
   lines-filled : lines (stored rows .values) ≡ filled rows
   lines-filled = ap lines (values-filled rows) ∙ lines-numbers (filled rows) width-all length-filled
@@ -209,7 +199,7 @@ module _ (k : ℕ) (few : k ≤ 4) (rows : List Row) (h : length rows ≤ 512) (
       after = numbers (replicate left no-line)
 
       length-before : length (numbers mine) ≡ 4 * length rows
-      length-before = length-numbers 4 mine (width-filled k few rows wide) ∙ omega (arith, length-mine)
+      length-before = numbers-width 4 mine (width-filled k few rows wide) ∙ omega (arith, length-mine)
 
       values-are : stored rows .values ≡ numbers mine ++ (no-line ++ after)
       values-are =

@@ -10,9 +10,9 @@ use lib.Dec.{T, eqb, ltb}
 use borrow.Author.Tests.{le-leb, lt-leb, eq-eqb}
 use Rattle.calculus.specs.Reflects.{reflected, reflects-T, reflects-true, reflects-false, reflects-map, reflects-and, reflects-not, reflects-eqb, reflects-ltb, reflects-leb}
 use Rattle.calculus.specs.Sets.{In, here, there, all-of, same-list}
-use Rattle.calculus.specs.Sets.Laws.{in-left, from-map, reflects-all, reflects-same-list}
+use Rattle.calculus.specs.Sets.Laws.{reflects-all, reflects-same-list}
 use Rattle.calculus.specs.Lists.{padded}
-use Rattle.calculus.specs.Lists.Laws.{reflects-replicate, from-tabulate, and-holds}
+use Rattle.calculus.specs.Lists.Laws.{reflects-replicate, and-holds}
 use Rattle.calculus.specs.Order.{Ascending, is-ascending}
 use Rattle.calculus.specs.Order.Laws.{ltb-order, reflects-ascending}
 use Rattle.calculus.specs.Generators.{columns}
@@ -27,7 +27,7 @@ use Rattle.verdict.specs.Verdict.Laws.{column-small}
 use Rattle.standing.specs.declared.Rows.{Rows}
 use Rattle.standing.specs.declared.View.{View}
 use Rattle.standing.specs.View.{line-at, lines, lines-held, lines-unused, ends, stored, columns-in, rows-in, columns-fit, rows-fit, counts-fit, view-fits, suits, kept, mark, view-of, QueryColumns}
-use Rattle.standing.specs.View.Laws.{Width, length-lines, getD-lines, lines-stored, unused-stored, rows-stored}
+use Rattle.standing.specs.View.Laws.{Width, length-lines, getD-lines, width-first, width-rows, lines-stored, unused-stored, rows-stored}
 use Rattle.standing.specs.View.Difference.{padded-ascends}
 
 -- ---- zeros past the values
@@ -58,28 +58,18 @@ module _ (vs : List ℕ) (n : ℕ) (h : n ≤ 512) where
   pub getD-first : (i : ℕ) → i < n → getD (take n (lines vs)) i [] ≡ line-at vs i
   getD-first i l = getD-take n (lines vs) i [] l ∙ getD-lines vs i (omega arith)
 
-module _ (r : Rows) where
-  -- Each has four values.
-  lines-wide : Width 4 (lines-held r)
-  unfolding lines
-  lines-wide w i = ap length (from-tabulate (line-at (r .values)) 512 (subst (In w) (take-append-drop (r .count) (lines (r .values))) (in-left (lines-unused r) i)) .2)
+module _ (r : Rows) (k : ℕ) (few : k ≤ 4) where
+  -- Lines that are zero past their first k values are these, filled up.
+  lines-padded : T (all-of (ends k) (lines-held r)) → lines-held r ≡ map (padded 4 0) (map (take k) (lines-held r))
+  lines-padded t = go (lines-held r) (width-first (r .count) (r .values)) t
+    where
+      go : (ls : List Row) → Width 4 ls → T (all-of (ends k) ls) → ls ≡ map (padded 4 0) (map (take k) ls)
+      go [] w s = refl
+      go (l ∷ ls) w s = let p = and-holds (ends k l) (all-of (ends k) ls) s in λ i. padded-taken 4 k l (w l (here refl)) few (p .0) i ∷ go ls (λ u j. w u (there j)) (p .1) i
 
-  module _ (k : ℕ) (few : k ≤ 4) where
-    -- Their first k values.
-    taken-wide : Width k (map (take k) (lines-held r))
-    taken-wide w i = let p = from-map (take k) (lines-held r) i in ap length (p .2) ∙ length-take-le k (p .0) (subst⁻¹ (λ n. k ≤ n) (lines-wide (p .0) (p .1)) few)
-
-    -- Lines that are zero past their first k values are these, filled up.
-    lines-padded : T (all-of (ends k) (lines-held r)) → lines-held r ≡ map (padded 4 0) (map (take k) (lines-held r))
-    lines-padded t = go (lines-held r) lines-wide t
-      where
-        go : (ls : List Row) → Width 4 ls → T (all-of (ends k) ls) → ls ≡ map (padded 4 0) (map (take k) ls)
-        go [] w s = refl
-        go (l ∷ ls) w s = let p = and-holds (ends k l) (all-of (ends k) ls) s in λ i. padded-taken 4 k l (w l (here refl)) few (p .0) i ∷ go ls (λ u j. w u (there j)) (p .1) i
-
-    -- So they are in order where their first k values are.
-    ascend-alike : T (all-of (ends k) (lines-held r)) → is-ascending row-below (lines-held r) ≡ is-ascending row-below (map (take k) (lines-held r))
-    ascend-alike t = ap (is-ascending row-below) (lines-padded t) ∙ padded-ascends k (map (take k) (lines-held r)) taken-wide
+  -- So they are in order where their first k values are.
+  ascend-alike : T (all-of (ends k) (lines-held r)) → is-ascending row-below (lines-held r) ≡ is-ascending row-below (map (take k) (lines-held r))
+  ascend-alike t = ap (is-ascending row-below) (lines-padded t) ∙ padded-ascends k (map (take k) (lines-held r)) (width-rows k (r .count) (r .values) few)
 
 -- Rows of k values filled up are zero past them.
 rows-ended : (k : ℕ) (rows : List Row) → Width k rows → all-of (ends k) (map (padded 4 0) rows) ≡ true
@@ -124,7 +114,7 @@ suited v cols e t =
       columns-are = λ i. record { variables = (padded-taken 4 k (v .columns .variables) e few (columns-parts .1) ∙ ap (padded 4 0) same) i; count = count-of i };
       few-rows = rows-few;
       count-is = length-map (lines-held (v .rows)) (take k) ∙ length-first (v .rows .values) (v .rows .count) rows-few;
-      wide = subst (λ n. Width n (rows-in v)) count-of (taken-wide (v .rows) k few);
+      wide = subst (λ n. Width n (rows-in v)) count-of (width-rows k (v .rows .count) (v .rows .values) few);
       ascending = rows-parts .0 .0 .1;
       lines-are = lines-padded (v .rows) k few (rows-parts .0 .1);
       unmarked = no-rows (v .endless) (v .rows .count) (counts-parts .0);

@@ -5,11 +5,11 @@ use borrow.Author.Needs.{needs}
 use borrow.Author.Tests.{not-true, not-false}
 use mathlib.Core.Path.{_≡_, refl, sym, _∙_}
 use mathlib.Core.List.{[]}
-use lib.ListN.{take, drop}
+use lib.ListN.{getD, take, drop}
 use Rattle.calculus.specs.Sets.{all-of}
 use Rattle.standing.specs.View.{lines, ends}
 use Rattle.standing.specs.View.Layout.{length-first, getD-first}
-use Rattle.standing.proofs.Judging.{tested, all-stops, all-goes, all-ends}
+use Rattle.calculus.specs.Lists.Laws.{tested, all-stops, all-goes, all-ends}
 use Rattle.standing.proofs.layout.all_end.Statement.{statement}
 use Rattle.standing.proofs.layout.all_end.Tie as tie
 
@@ -22,18 +22,22 @@ abbrev μ-loop : tie.MeasureT-loop
 loop-holds : tie.Need-loop-holds Inv-loop μ-loop
 loop-holds c = (omega arith, refl)
 
-ends-at-requires : tie.Need-ends-at-requires Inv-loop μ-loop
-ends-at-requires c κs = search needs
+read-requires : tie.Need-read-requires Inv-loop μ-loop
+read-requires c κs = search needs
+
+ends-requires : tie.Need-ends-requires Inv-loop μ-loop
+ends-requires c κs = search needs
+
+-- The test of the row read is one of the row at place i.
+told : (c : tie.After-ends Inv-loop μ-loop) → let l = c .before .before .before in let s = l .before .args in ends (s .k) (getD (take (s .count) (lines (s .values .now))) (l .loop .i) []) ≡ c .ends .result
+told c =
+    let l = c .before .before .before in let s = l .before in
+    tested (ends (s .args .k)) (c .ends .ensures) (c .before .read .ensures ∙ sym (getD-first (s .args .values .now) (s .args .count) (s .pre) (l .loop .i) (c .before .before .loop-test .taken)))
 
 returns : tie.Need-returns Inv-loop μ-loop
 returns c =
-    let s = c .before .before .before .before in
-    let vs = s .args .values .now in let n = s .args .count in let k = s .args .k in
-    let i = c .before .before .before .loop .i in
-    let here = getD-first vs n (s .pre) i (c .before .before .loop-test .taken) in
-    sym
-    (c .before .before .before .loop .inv .1
-    ∙ all-stops (ends k) (take n (lines vs)) i [] (omega (arith, length-first vs n (s .pre))) (tested (ends k) (c .before .ends-at .ensures) (sym here) ∙ not-true _ (c .if1 .taken)))
+    let l = c .before .before .before .before in let s = l .before in let vs = s .args .values .now in let n = s .args .count in
+    sym (l .loop .inv .1 ∙ all-stops (ends (s .args .k)) (take n (lines vs)) (l .loop .i) [] (omega (arith, length-first vs n (s .pre))) (told (c .before) ∙ not-true _ (c .if1 .taken)))
 
 add-i : tie.Need-add-i Inv-loop μ-loop
 add-i c = search needs
@@ -43,31 +47,13 @@ loop-less c = search needs
 
 loop-again : tie.Need-loop-again Inv-loop μ-loop
 loop-again c =
-    let s = c .before .before .before .before in
-    let vs = s .args .values .now in let n = s .args .count in let k = s .args .k in
-    let i = c .before .before .before .loop .i in
-    let here = getD-first vs n (s .pre) i (c .before .before .loop-test .taken) in (
-      omega arith,
-      c .before .before .before .loop .inv .1
-          ∙ all-goes (ends k) (take n (lines vs)) i [] (omega (arith, length-first vs n (s .pre))) (tested (ends k) (c .before .ends-at .ensures) (sym here) ∙ not-false _ (c .if1 .left)),
-    )
+    let l = c .before .before .before .before in let s = l .before in let vs = s .args .values .now in let n = s .args .count in
+    (omega arith, l .loop .inv .1 ∙ all-goes (ends (s .args .k)) (take n (lines vs)) (l .loop .i) [] (omega (arith, length-first vs n (s .pre))) (told (c .before) ∙ not-false _ (c .if1 .left)))
 
 returns-2 : tie.Need-returns-2 Inv-loop μ-loop
 returns-2 c =
-    let s = c .before .before in
-    let vs = s .args .values .now in let n = s .args .count in
+    let s = c .before .before in let vs = s .args .values .now in let n = s .args .count in
     sym (c .before .loop .inv .1 ∙ all-ends (ends (s .args .k)) (take n (lines vs)) (c .before .loop .i) [] (omega (arith, length-first vs n (s .pre))))
 
 pub all-end-spec : {M : Type 1} → statement M
-all-end-spec =
-    tie.close
-    (tie.spec
-    Inv-loop
-    μ-loop
-    loop-holds
-    ends-at-requires
-    returns
-    add-i
-    loop-less
-    loop-again
-    returns-2)
+all-end-spec = tie.close (tie.spec Inv-loop μ-loop loop-holds read-requires ends-requires returns add-i loop-less loop-again returns-2)

@@ -5,11 +5,11 @@ use borrow.Author.Needs.{needs}
 use borrow.Author.Tests.{not-true, not-false}
 use mathlib.Core.Path.{_≡_, refl, sym, _∙_}
 use mathlib.Core.List.{[]}
-use lib.ListN.{drop}
+use lib.ListN.{getD, drop}
 use Rattle.calculus.specs.Sets.{all-of}
 use Rattle.standing.specs.View.{lines, ends}
 use Rattle.standing.specs.View.Laws.{length-lines, getD-lines}
-use Rattle.standing.proofs.Judging.{tested, all-stops, all-goes, all-ends}
+use Rattle.calculus.specs.Lists.Laws.{tested, all-stops, all-goes, all-ends}
 use Rattle.standing.proofs.layout.rest_zero.Statement.{statement}
 use Rattle.standing.proofs.layout.rest_zero.Tie as tie
 
@@ -22,16 +22,22 @@ abbrev μ-loop : tie.MeasureT-loop
 loop-holds : tie.Need-loop-holds Inv-loop μ-loop
 loop-holds c = (c .pre, refl)
 
-ends-at-requires : tie.Need-ends-at-requires Inv-loop μ-loop
-ends-at-requires c κs = search needs
+read-requires : tie.Need-read-requires Inv-loop μ-loop
+read-requires c κs = search needs
+
+ends-requires : tie.Need-ends-requires Inv-loop μ-loop
+ends-requires c κs = search needs
+
+-- The test of the row read is one of the row at place i.
+told : (c : tie.After-ends Inv-loop μ-loop) → let l = c .before .before .before in ends 0 (getD (lines (l .before .args .values .now)) (l .loop .i) []) ≡ c .ends .result
+told c =
+    let l = c .before .before .before in
+    tested (ends 0) (c .ends .ensures) (c .before .read .ensures ∙ sym (getD-lines (l .before .args .values .now) (l .loop .i) (c .before .before .loop-test .taken)))
 
 returns : tie.Need-returns Inv-loop μ-loop
 returns c =
-    let vs = c .before .before .before .before .args .values .now in let i = c .before .before .before .loop .i in
-    let here = getD-lines vs i (c .before .before .loop-test .taken) in
-    sym
-    (c .before .before .before .loop .inv .1
-    ∙ all-stops (ends 0) (lines vs) i [] (omega (arith, length-lines vs)) (tested (ends 0) (c .before .ends-at .ensures) (sym here) ∙ not-true _ (c .if1 .taken)))
+    let l = c .before .before .before .before in let vs = l .before .args .values .now in
+    sym (l .loop .inv .1 ∙ all-stops (ends 0) (lines vs) (l .loop .i) [] (omega (arith, length-lines vs)) (told (c .before) ∙ not-true _ (c .if1 .taken)))
 
 add-i : tie.Need-add-i Inv-loop μ-loop
 add-i c = search needs
@@ -41,12 +47,8 @@ loop-less c = search needs
 
 loop-again : tie.Need-loop-again Inv-loop μ-loop
 loop-again c =
-    let vs = c .before .before .before .before .args .values .now in let i = c .before .before .before .loop .i in
-    let here = getD-lines vs i (c .before .before .loop-test .taken) in (
-      omega arith,
-      c .before .before .before .loop .inv .1
-          ∙ all-goes (ends 0) (lines vs) i [] (omega (arith, length-lines vs)) (tested (ends 0) (c .before .ends-at .ensures) (sym here) ∙ not-false _ (c .if1 .left)),
-    )
+    let l = c .before .before .before .before in let vs = l .before .args .values .now in
+    (omega arith, l .loop .inv .1 ∙ all-goes (ends 0) (lines vs) (l .loop .i) [] (omega (arith, length-lines vs)) (told (c .before) ∙ not-false _ (c .if1 .left)))
 
 returns-2 : tie.Need-returns-2 Inv-loop μ-loop
 returns-2 c =
@@ -54,15 +56,4 @@ returns-2 c =
     sym (c .before .loop .inv .1 ∙ all-ends (ends 0) (lines vs) (c .before .loop .i) [] (omega (arith, length-lines vs)))
 
 pub rest-zero-spec : {M : Type 1} → statement M
-rest-zero-spec =
-    tie.close
-    (tie.spec
-    Inv-loop
-    μ-loop
-    loop-holds
-    ends-at-requires
-    returns
-    add-i
-    loop-less
-    loop-again
-    returns-2)
+rest-zero-spec = tie.close (tie.spec Inv-loop μ-loop loop-holds read-requires ends-requires returns add-i loop-less loop-again returns-2)

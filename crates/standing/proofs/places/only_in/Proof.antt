@@ -4,31 +4,37 @@ use Prim.Native.Nat.{_+_, _≤_, _<_, _-_}
 use native.Mathlib.Omega.{arith}
 use borrow.Author.Needs.{needs}
 use borrow.Author.Tests.{not-true, not-false}
-use mathlib.Core.Path.{_≡_, ap, sym, _∙_}
+use mathlib.Core.Path.{_≡_, ap, subst, subst⁻¹, sym, _∙_}
 use mathlib.Core.Logic.{⊎-elim}
-use lib.ListN.{length}
-use Rattle.standing.specs.View.{stored}
-use Rattle.standing.proofs.Walking.{Passed, passed-none, found, written, found-none, found-sizes, Step, found-to, passed-on, found-without, found-written}
+use lib.ListN.{length, take}
+use Rattle.calculus.specs.Sets.{any-of, same-list}
+use Rattle.calculus.specs.Rows.{Row}
+use Rattle.standing.specs.View.{line-at, lines, lines-held, stored, Passed}
+use Rattle.calculus.specs.Lists.Laws.{tested}
+use Rattle.standing.proofs.Walking.{passed-on, found, written, found-none, found-sizes, found-without, found-written}
 use Rattle.standing.proofs.places.only_in.Statement.{statement}
 use Rattle.standing.proofs.places.only_in.Tie as tie
 
 abbrev Inv-loop : tie.InvT-loop
 Inv-loop xs ys n m values₀ count₀ i₀ j₀ values count i j =
-    (i ≤ n) × (j ≤ m) × (count ≤ i) × (length xs ≡ 2048) × (length values ≡ 2048) × (i < n → Passed ys 0 xs i j) × (written values count ≡ stored (found xs i ys m))
+    (i ≤ n) × (count ≤ i) × (length xs ≡ 2048) × (length values ≡ 2048) × (i < n → Passed (take m (lines ys)) j (line-at xs i)) × (written values count ≡ stored (found xs i (take m (lines ys))))
 
 abbrev μ-loop : tie.MeasureT-loop
 μ-loop xs ys n m values₀ count₀ i₀ j₀ values count i j = n - i
 
 loop-holds : tie.Need-loop-holds Inv-loop μ-loop
-loop-holds c =
-    let s = c .before .before .args in
-    (omega arith, omega arith, omega arith, search needs, search needs, λ h. passed-none (s .b .values) (s .a .values) 0 0, found-none (s .a .values) (s .b .values) (s .b .count))
+loop-holds c = let s = c .before .before .args in (omega arith, omega arith, search needs, search needs, λ h o l. absurd (omega arith), found-none (s .a .values) (lines-held (s .b)))
+
+read-requires : tie.Need-read-requires Inv-loop μ-loop
+read-requires c κs = search needs
 
 skip-requires : tie.Need-skip-requires Inv-loop μ-loop
-skip-requires c κs = search needs
+skip-requires c κs =
+    let s = c .before .before .before .before .before .before .before in let l = c .before .before .before .before .loop in
+    (s .pre .1 .0, subst⁻¹ (Passed (lines-held (s .args .b)) (l .j)) (c .before .read .ensures) (l .inv .4 (c .before .before .before .loop-test .taken)))
 
 stands-requires : tie.Need-stands-requires Inv-loop μ-loop
-stands-requires c κs = search needs
+stands-requires c κs = let s = c .before .before .before .before .before .before .before .before .before in (s .pre .1 .0, s .pre .1 .1, c .before .skip .ensures)
 
 slice-aggregate-carry : tie.Need-slice-aggregate-carry Inv-loop μ-loop
 slice-aggregate-carry c = search needs
@@ -56,22 +62,25 @@ loop-less c = search needs
 
 loop-again : tie.Need-loop-again Inv-loop μ-loop
 loop-again c =
-    let t = c .before .before .before .before .before .before .before .before .before .before .before in let a = t .args .a in let b = t .args .b in
-    let l = c .before .before .before .before .before .before .before .before .loop in let h = c .before .before .before .before .before .before .before .loop-test .taken in
-    let r = c .before .before .before .before .skip in
-    let s : Step a b (l .i) (l .j) (r .result) = record { order = t .pre; more = h; passed = l .inv .5 h; skipped = r .ensures } in
-    let e : written (c .if1 .values) (c .if1 .count) ≡ stored (found-to a b (l .i + 1)) =
+    let s = c .before .before .before .before .before .before .before .before .before .before .before in
+    let xs = s .args .a .values in let n = s .args .a .count in let ys = lines-held (s .args .b) in
+    let l = c .before .before .before .before .before .before .before .before .loop in let i = l .i in
+    let h = c .before .before .before .before .before .before .before .loop-test .taken in
+    let few : i < 512 = omega (arith, h, s .pre .0 .0) in
+    let here = c .before .before .before .before .before .read .ensures in let p = c .before .before .before .skip in
+    let told = tested (λ (x : Row). any-of (same-list x) ys) (c .before .stands .ensures) here in
+    let e : written (c .if1 .values) (c .if1 .count) ≡ stored (found xs (i + 1) ys) =
     ⊎-elim
-    (λ w. (λ q. written ((w .5 ∙ w .3 .ensures) q) (w .6 q)) ∙ found-written s (l .values) (l .count) (l .inv .3) (l .inv .6) (sym (c .before .stands .ensures) ∙ not-true _ (w .0 .taken)))
-    (λ w. (λ q. written (w .1 q) (w .2 q)) ∙ l .inv .6 ∙ ap stored (sym (found-without s (sym (c .before .stands .ensures) ∙ not-false _ (w .0 .left)))))
+    (λ w. (λ q. written ((w .5 ∙ w .3 .ensures) q) (w .6 q)) ∙ found-written xs ys i few (l .values) (l .count) (l .inv .2) (l .inv .5) (told ∙ not-true _ (w .0 .taken)))
+    (λ w. (λ q. written (w .1 q) (w .2 q)) ∙ l .inv .5 ∙ ap stored (sym (found-without xs ys i few (told ∙ not-false _ (w .0 .left)))))
     (c .if1 .came) in
-    let z = found-sizes (a .values) (b .values) (b .count) (l .i + 1) (omega arith) (c .if1 .values) (c .if1 .count) e in
-    (omega arith, r .ensures .1, z .0, l .inv .3, z .1, passed-on s, e)
+    let z = found-sizes xs ys (i + 1) (omega (arith, few)) (c .if1 .values) (c .if1 .count) e in
+    (omega arith, z .0, l .inv .2, z .1, λ m. passed-on xs n (s .pre .0 .0) (s .pre .0 .1) ys i (p .result) m (subst (Passed ys (p .result)) here (p .ensures .0)), e)
 
 returns : tie.Need-returns Inv-loop μ-loop
 returns c =
     let s = c .before .before .before .before .args in let l = c .before .loop in let e : l .i ≡ s .a .count = omega arith in
-    l .inv .6 ∙ ap (λ k. stored (found-to (s .a) (s .b) k)) e
+    l .inv .5 ∙ ap (λ k. stored (found (s .a .values) k (lines-held (s .b)))) e
 
 pub only-in-spec : {M : Type 1} → statement M
 only-in-spec =
@@ -80,6 +89,7 @@ only-in-spec =
     Inv-loop
     μ-loop
     loop-holds
+    read-requires
     skip-requires
     stands-requires
     slice-aggregate-carry

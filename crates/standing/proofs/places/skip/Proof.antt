@@ -1,28 +1,43 @@
--- `standing::places::skip` meets its contract. The loop's invariant: the rows from place j up to p are below the one looked for.
-use Prim.Native.Nat.{_≤_, _-_}
+-- `standing::places::skip` meets its contract. The loop's invariant: the rows before place p are below x.
+use Prim.Native.Nat.{_-_}
 use native.Mathlib.Omega.{arith}
 use borrow.Author.Needs.{needs}
 use borrow.Author.Tests.{not-true, not-false}
-use mathlib.Core.Path.{sym, subst, _∙_}
+use mathlib.Core.Path.{_≡_, sym, subst, _∙_}
+use mathlib.Core.List.{[]}
+use lib.ListN.{getD, take}
 use lib.Dec.{T}
-use Rattle.standing.proofs.Walking.{Passed, passed-none, passed-next}
+use Rattle.calculus.specs.Rows.{Row, row-below}
+use Rattle.standing.specs.View.{lines, values-of, Passed}
+use Rattle.standing.specs.View.Layout.{length-first, getD-first}
+use Rattle.calculus.specs.Lists.Laws.{tested}
+use Rattle.standing.proofs.Walking.{passed-next}
 use Rattle.standing.proofs.places.skip.Statement.{statement}
 use Rattle.standing.proofs.places.skip.Tie as tie
 
 abbrev Inv-loop : tie.InvT-loop
-Inv-loop ys m j xs i p₀ p = (j ≤ p) × (p ≤ m) × Passed ys j xs i p
+Inv-loop ys m j x p₀ p = Passed (take m (lines ys)) p (values-of x)
 
 abbrev μ-loop : tie.MeasureT-loop
-μ-loop ys m j xs i p₀ p = m - p
+μ-loop ys m j x p₀ p = m - p
 
 loop-holds : tie.Need-loop-holds Inv-loop μ-loop
-loop-holds c = (omega arith, c .pre .2, passed-none (c .args .ys .now) (c .args .xs .now) (c .args .i) (c .args .j))
+loop-holds c = c .pre .1
+
+read-requires : tie.Need-read-requires Inv-loop μ-loop
+read-requires c κs = search needs
 
 below-requires : tie.Need-below-requires Inv-loop μ-loop
 below-requires c κs = search needs
 
+-- The test of the row read is one of the row at place p.
+told : (c : tie.After-below Inv-loop μ-loop) → let l = c .before .before .before in let s = l .before .args in row-below (getD (take (s .m) (lines (s .ys .now))) (l .loop .p) []) (values-of (s .x)) ≡ c .below .result
+told c =
+    let l = c .before .before .before in let s = l .before in
+    tested (λ (y : Row). row-below y (values-of (s .args .x))) (c .below .ensures) (c .before .read .ensures ∙ sym (getD-first (s .args .ys .now) (s .args .m) (s .pre .0) (l .loop .p) (c .before .before .loop-test .taken)))
+
 returns : tie.Need-returns Inv-loop μ-loop
-returns c = let v = c .before .before .before .loop .inv in (v .0, v .1, v .2, λ l t. subst T (sym (c .before .below .ensures) ∙ not-true _ (c .if1 .taken)) t)
+returns c = (c .before .before .before .before .loop .inv, λ h. subst T (told (c .before) ∙ not-true _ (c .if1 .taken)))
 
 add-p : tie.Need-add-p Inv-loop μ-loop
 add-p c = search needs
@@ -32,11 +47,11 @@ loop-less c = search needs
 
 loop-again : tie.Need-loop-again Inv-loop μ-loop
 loop-again c =
-    let s = c .before .before .before .before .args in let l = c .before .before .before .loop in
-    (omega arith, omega arith, passed-next (s .ys .now) (s .xs .now) (s .i) (s .j) (l .p) (l .inv .2) (sym (c .before .below .ensures) ∙ not-false _ (c .if1 .left)))
+    let l = c .before .before .before .before in let s = l .before .args in
+    passed-next (take (s .m) (lines (s .ys .now))) (l .loop .p) (values-of (s .x)) (l .loop .inv) (told (c .before) ∙ not-false _ (c .if1 .left))
 
 returns-2 : tie.Need-returns-2 Inv-loop μ-loop
-returns-2 c = let v = c .before .loop .inv in (v .0, v .1, v .2, λ l t. omega arith)
+returns-2 c = let s = c .before .before in (c .before .loop .inv, λ h. absurd (omega (arith, length-first (s .args .ys .now) (s .args .m) (s .pre .0))))
 
 pub skip-spec : {M : Type 1} → statement M
-skip-spec = tie.close (tie.spec Inv-loop μ-loop loop-holds below-requires returns add-p loop-less loop-again returns-2)
+skip-spec = tie.close (tie.spec Inv-loop μ-loop loop-holds read-requires below-requires returns add-p loop-less loop-again returns-2)

@@ -6,7 +6,8 @@ use lib.ListN.{take}
 use Rattle.tables.specs.Records.{same-record}
 use Rattle.tables.specs.Store.{places}
 use Rattle.tables.specs.Store.Places.{length-first, getD-first}
-use Rattle.tables.proofs.Laws.{tested, found-none, found-place}
+use Rattle.calculus.specs.Lists.Laws.{tested}
+use Rattle.tables.proofs.Laws.{found-none, found-place}
 use Rattle.tables.proofs.change.found_at.Statement.{statement}
 use Rattle.tables.proofs.change.found_at.Tie as tie
 

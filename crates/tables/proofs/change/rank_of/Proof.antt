@@ -9,7 +9,8 @@ use Rattle.tables.specs.Records.{record-below}
 use Rattle.tables.specs.Store.{places}
 use Rattle.tables.specs.Store.Places.{length-first, getD-first}
 use Rattle.tables.specs.Change.{rank}
-use Rattle.tables.proofs.Laws.{tested, rank-stops, rank-goes, rank-ends}
+use Rattle.calculus.specs.Lists.Laws.{tested}
+use Rattle.tables.proofs.Laws.{rank-stops, rank-goes, rank-ends}
 use Rattle.tables.proofs.change.rank_of.Statement.{statement}
 use Rattle.tables.proofs.change.rank_of.Tie as tie
 

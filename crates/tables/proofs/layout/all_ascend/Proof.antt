@@ -9,7 +9,8 @@ use Rattle.calculus.specs.Order.{is-ascending}
 use Rattle.tables.specs.Records.{record-below, blank}
 use Rattle.tables.specs.Store.{places}
 use Rattle.tables.specs.Store.Places.{length-first, getD-first}
-use Rattle.tables.proofs.Laws.{tested-pair, ascending-stops, ascending-goes, ascending-ends}
+use Rattle.calculus.specs.Lists.Laws.{tested-pair}
+use Rattle.calculus.specs.Order.Laws.{ascending-stops, ascending-goes, ascending-ends}
 use Rattle.tables.proofs.layout.all_ascend.Statement.{statement}
 use Rattle.tables.proofs.layout.all_ascend.Tie as tie
 

@@ -6,10 +6,10 @@ use borrow.Author.Tests.{not-true, not-false}
 use mathlib.Core.Path.{_≡_, refl, sym, _∙_}
 use lib.ListN.{take, drop}
 use Rattle.calculus.specs.Sets.{all-of}
-use Rattle.tables.specs.Records.{fits}
+use Rattle.tables.specs.Records.{blank, fits}
 use Rattle.tables.specs.Store.{places}
 use Rattle.tables.specs.Store.Places.{length-first, getD-first}
-use Rattle.tables.proofs.Laws.{tested, all-stops, all-goes, all-ends}
+use Rattle.calculus.specs.Lists.Laws.{tested, all-stops, all-goes, all-ends}
 use Rattle.tables.proofs.layout.all_fit.Statement.{statement}
 use Rattle.tables.proofs.layout.all_fit.Tie as tie
 
@@ -37,7 +37,7 @@ returns c =
     let here = getD-first rs vs n (s .pre) i (c .before .before .before .loop-test .taken) in
     sym
     (c .before .before .before .before .loop .inv .1
-    ∙ all-stops (fits ws) (take n (places rs vs)) i (omega (arith, length-first rs vs n (s .pre))) (tested (fits ws) (c .before .record-fits .ensures) (c .before .before .read .ensures ∙ sym here) ∙ not-true _ (c .if1 .taken)))
+    ∙ all-stops (fits ws) (take n (places rs vs)) i blank (omega (arith, length-first rs vs n (s .pre))) (tested (fits ws) (c .before .record-fits .ensures) (c .before .before .read .ensures ∙ sym here) ∙ not-true _ (c .if1 .taken)))
 
 add-i : tie.Need-add-i Inv-loop μ-loop
 add-i c = search needs
@@ -53,14 +53,14 @@ loop-again c =
     let here = getD-first rs vs n (s .pre) i (c .before .before .before .loop-test .taken) in (
       omega arith,
       c .before .before .before .before .loop .inv .1
-          ∙ all-goes (fits ws) (take n (places rs vs)) i (omega (arith, length-first rs vs n (s .pre))) (tested (fits ws) (c .before .record-fits .ensures) (c .before .before .read .ensures ∙ sym here) ∙ not-false _ (c .if1 .left)),
+          ∙ all-goes (fits ws) (take n (places rs vs)) i blank (omega (arith, length-first rs vs n (s .pre))) (tested (fits ws) (c .before .record-fits .ensures) (c .before .before .read .ensures ∙ sym here) ∙ not-false _ (c .if1 .left)),
     )
 
 returns-2 : tie.Need-returns-2 Inv-loop μ-loop
 returns-2 c =
     let s = c .before .before in
     let rs = s .args .relations .now in let vs = s .args .values .now in let n = s .args .count in
-    sym (c .before .loop .inv .1 ∙ all-ends (fits (s .args .widths .now)) (take n (places rs vs)) (c .before .loop .i) (omega (arith, length-first rs vs n (s .pre))))
+    sym (c .before .loop .inv .1 ∙ all-ends (fits (s .args .widths .now)) (take n (places rs vs)) (c .before .loop .i) blank (omega (arith, length-first rs vs n (s .pre))))
 
 pub all-fit-spec : {M : Type 1} → statement M
 all-fit-spec = tie.close (tie.spec Inv-loop μ-loop loop-holds read-requires record-fits-requires returns add-i loop-less loop-again returns-2)

@@ -6,10 +6,10 @@ use borrow.Author.Tests.{not-true, not-false}
 use mathlib.Core.Path.{_≡_, refl, sym, _∙_}
 use lib.ListN.{drop}
 use Rattle.calculus.specs.Sets.{all-of}
-use Rattle.tables.specs.Records.{is-blank}
+use Rattle.tables.specs.Records.{blank, is-blank}
 use Rattle.tables.specs.Store.{places}
 use Rattle.tables.specs.Store.Laws.{length-places, getD-places}
-use Rattle.tables.proofs.Laws.{tested, all-stops, all-goes, all-ends}
+use Rattle.calculus.specs.Lists.Laws.{tested, all-stops, all-goes, all-ends}
 use Rattle.tables.proofs.layout.rest_blank.Statement.{statement}
 use Rattle.tables.proofs.layout.rest_blank.Tie as tie
 
@@ -35,7 +35,7 @@ returns c =
     let here = getD-places rs vs i (c .before .before .before .loop-test .taken) in
     sym
     (c .before .before .before .before .loop .inv .1
-    ∙ all-stops is-blank (places rs vs) i (omega (arith, length-places rs vs)) (tested is-blank (c .before .same .ensures) (c .before .before .read .ensures ∙ sym here) ∙ not-true _ (c .if1 .taken)))
+    ∙ all-stops is-blank (places rs vs) i blank (omega (arith, length-places rs vs)) (tested is-blank (c .before .same .ensures) (c .before .before .read .ensures ∙ sym here) ∙ not-true _ (c .if1 .taken)))
 
 add-i : tie.Need-add-i Inv-loop μ-loop
 add-i c = search needs
@@ -50,13 +50,13 @@ loop-again c =
     let here = getD-places rs vs i (c .before .before .before .loop-test .taken) in (
       omega arith,
       c .before .before .before .before .loop .inv .1
-          ∙ all-goes is-blank (places rs vs) i (omega (arith, length-places rs vs)) (tested is-blank (c .before .same .ensures) (c .before .before .read .ensures ∙ sym here) ∙ not-false _ (c .if1 .left)),
+          ∙ all-goes is-blank (places rs vs) i blank (omega (arith, length-places rs vs)) (tested is-blank (c .before .same .ensures) (c .before .before .read .ensures ∙ sym here) ∙ not-false _ (c .if1 .left)),
     )
 
 returns-2 : tie.Need-returns-2 Inv-loop μ-loop
 returns-2 c =
     let rs = c .before .before .args .relations .now in let vs = c .before .before .args .values .now in
-    sym (c .before .loop .inv .1 ∙ all-ends is-blank (places rs vs) (c .before .loop .i) (omega (arith, length-places rs vs)))
+    sym (c .before .loop .inv .1 ∙ all-ends is-blank (places rs vs) (c .before .loop .i) blank (omega (arith, length-places rs vs)))
 
 pub rest-blank-spec : {M : Type 1} → statement M
 rest-blank-spec = tie.close (tie.spec Inv-loop μ-loop loop-holds read-requires same-requires returns add-i loop-less loop-again returns-2)

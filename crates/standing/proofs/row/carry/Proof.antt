@@ -1,4 +1,4 @@
--- `line::carry` meets its contract. The loop's invariant: the first c numbers are carried, and what lies before and past them is as it was.
+-- `row::carry` meets its contract. The loop's invariant: the first c numbers are carried, and what lies before and past them is as it was.
 use Prim.Native.Nat.{_-_, _≤_}
 use native.Mathlib.Omega.{arith}
 use borrow.Author.Needs.{needs}
@@ -6,8 +6,8 @@ use mathlib.Core.Path.{_≡_, refl, ap, _∙_}
 use lib.ListN.{length, drop, length-set}
 use lib.Seq.{paste, paste-zero}
 use Rattle.standing.proofs.Carrying.{carried-next}
-use Rattle.standing.proofs.line.carry.Statement.{statement}
-use Rattle.standing.proofs.line.carry.Tie as tie
+use Rattle.standing.proofs.row.carry.Statement.{statement}
+use Rattle.standing.proofs.row.carry.Tie as tie
 
 abbrev Inv-loop : tie.InvT-loop
 Inv-loop from start k out₀ at c₀ out c = (c ≤ k) × (length out ≡ length out₀) × (out ≡ paste out₀ at (drop start from) c)
