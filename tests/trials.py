@@ -884,7 +884,10 @@ def named_run_cases():
         "513 rows": dict(one, rows=513, counts=(513, 0, 0)),
     }.items():
         handed_in(f"12: {name}", THREE, WORKED, held, [put((2, 0, 0, 0, 0)), out(seven)], [12, 12], 3)
-    handed_in("12: no columns, and not column 0", THREE, words_bytes([R0, some(1, 0)]), ledger.NO_LIST, [put(nine)], [12])
+    one_column, second_set = words_bytes([R0, some(1, 0)]), ledger.list_of([0], [(7,), (9,)], False, 2, 0, 0)
+    second_set["places"][0] = (7, 1, 0, 0)
+    handed_in("12: a second value of one column", THREE, one_column, second_set, [put(nine)], [12])
+    handed_in("12: no columns, and not column 0", THREE, one_column, ledger.NO_LIST, [put(nine)], [12])
     handed_in("1 before 12", THREE, b"", dict(one, rows=600), [put(seven)], [1], 1, [9] * 16)
     handed_in("7 before 12", THREE, nodes_with(n3=both(2, 2)), dict(one, rows=600), [put(seven)], [7], 1)
 
