@@ -1,4 +1,5 @@
--- The standing list: document 01, "Rows, endless and listed", and its layout, cause 12. Definitions only; the laws are in View/Laws.antt.
+-- The materialized view of a query, document 01's *standing list* ("Rows, endless and listed"), and its layout, cause 12. Definitions only; the laws are in
+-- View/Laws.antt, View/Difference.antt and View/Layout.antt.
 use Prim.Native.Nat.{ℕ, zero, suc, _+_, _*_, _≤_, _<_}
 use mathlib.Core.Path.{_≡_}
 use mathlib.Core.Bool.{Bool, true, false, not, _&&_}
