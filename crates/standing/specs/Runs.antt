@@ -1,5 +1,5 @@
 -- Runs, and demand 3: one claim about every run. Definitions only; the theorem is in Runs/Laws.antt.
-use Prim.Native.Nat.{ℕ}
+use Prim.Native.Nat.{ℕ, _+_}
 use mathlib.Core.Path.{_≡_}
 use mathlib.Core.List.{List, [], _∷_}
 use lib.ListN.{length}
@@ -56,3 +56,12 @@ pub record Represents (q : Query) (l : Ledger) (s : Store) (v : View) : Type 0 w
   pub opening-is : v .opening ≡ l .opening
   pub joined-is : v .joined ≡ l .joined
   pub left-is : v .left ≡ l .left
+
+-- How many rows the replies of a run told as joined, and how many as left.
+abbrev pub joined-in : List Reply → ℕ
+joined-in [] = 0
+joined-in (r ∷ rs) = r .0 .joined + joined-in rs
+
+abbrev pub left-in : List Reply → ℕ
+left-in [] = 0
+left-in (r ∷ rs) = r .0 .left + left-in rs

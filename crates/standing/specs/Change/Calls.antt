@@ -31,6 +31,14 @@ use Rattle.standing.specs.Change.{joining, leaving, begin-checks, refusa
 abbrev pub FewTold : Change × (List ℕ × List ℕ) → Type 0
 FewTold x = (x .0 .joined ≤ 512) × (x .0 .left ≤ 512)
 
+-- The counts grow by the numbers told; a refusal tells none, and leaves them.
+abbrev pub Grown : View → Change × (List ℕ × List ℕ) → Type 0
+Grown v x = (x .0 .view .opening ≡ v .opening) × (x .0 .view .joined ≡ v .joined + x .0 .joined) × (x .0 .view .left ≡ v .left + x .0 .left)
+
+reply-grown : (a : Answer) (s t : Store) (v : View) (cols : List ℕ) (found : Answers) (first second : List ℕ) → Grown v (turn-reply a s t v cols found first second)
+reply-grown Done s t v cols found first second = (refl, refl, refl)
+reply-grown (Refused n p) s t v cols found first second = (refl, omega arith, omega arith)
+
 -- A reply tells the answer that it was made for; so a refusal, whatever its cause, leaves the store, the list and both buffers.
 refusal-told : (a : Answer) (s t : Store) (v : View) (cols : List ℕ) (found : Answers) (first second : List ℕ) (n p : ℕ) → turn-reply a s t v cols found first second .0 .answer ≡ Refused n p → turn-reply a s t v cols found first second ≡ (refusal n p s v, (first, second))
 refusal-told Done s t v cols found first second n p e = absurd (subst (λ a. T (is-done a)) e tt)
@@ -51,6 +59,10 @@ module _ (kind : Kind) (s : Store) (v : View) (bs : List ℕ) (r : Record) (firs
   pub change-leaves : (n p : ℕ) → change-of kind s v bs r first second .0 .answer ≡ Refused n p → change-of kind s v bs r first second ≡ (refusal n p s v, (first, second))
   change-leaves =
       refusal-told (first-cause (ready-checks s v bs ++ (record-causes ++ turn-causes))) s (store-after kind s r) v (columns (formula (query-read s bs))) (answers-to (store-after kind s r) (query-read s bs)) first second
+
+  pub change-grown : Grown v (change-of kind s v bs r first second)
+  change-grown =
+      reply-grown (first-cause (ready-checks s v bs ++ (record-causes ++ turn-causes))) s (store-after kind s r) v (columns (formula (query-read s bs))) (answers-to (store-after kind s r) (query-read s bs)) first second
 
   -- One of the causes 1 to 10 or 12 is met.
   pub change-unready : (n p : ℕ) → first-cause (ready-checks s v bs) ≡ Refused n p → change-of kind s v bs r first second ≡ (refusal n p s v, (first, second))

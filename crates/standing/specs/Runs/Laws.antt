@@ -1,6 +1,7 @@
 -- Demand 3: every run is the ledger's. And what follows: after a run the list is endless exactly when infinitely many rows satisfy the query over the records
 -- then held, else it holds all such rows and no other; each change reports exactly the rows that joined and left; and the counts add up.
 use Prim.Native.Nat.{ℕ, _+_}
+use native.Mathlib.Omega.{arith}
 use mathlib.Core.Path.{_≡_, refl, sym, ap, subst⁻¹, _∙_}
 use mathlib.Core.Logic.{_↔_}
 use mathlib.Core.Bool.{true}
@@ -24,10 +25,11 @@ use Rattle.answer.specs.Reply.Right.{EndlessOver, RightOver}
 use Rattle.standing.specs.declared.View.{View}
 use Rattle.standing.specs.View.{rows-in, kept, mark}
 use Rattle.standing.specs.Change.{opened-of, fronted}
+use Rattle.standing.specs.Change.Calls.{Grown, change-grown}
 use Rattle.standing.specs.Ledger.{Ledger, Call, Report, Opens, Accounts}
 use Rattle.standing.specs.Ledger.Laws.{right-among, opening-ledger, opens-is, accounts-is, entry, entries, entry-reports}
-use Rattle.standing.specs.Runs.{Reply, Ensured, Run, Agrees, Agree, Represents}
-use Rattle.standing.specs.Runs.Steps.{Standing, step, steps, standing-rows, standing-ascends, standing-represents, opening-standing}
+use Rattle.standing.specs.Runs.{Reply, Ensured, Run, ended, call, Agrees, Agree, Represents, joined-in, left-in}
+use Rattle.standing.specs.Runs.Steps.{Standing, step, steps, standing-rows, standing-ascends, standing-represents, opened-is, opening-standing}
 
 -- ---- what a list keeps of right answers
 
@@ -46,6 +48,16 @@ module _ (s : Store) (q : Query) where
 marked-none : (a : Answers) → mark a ≡ true → kept a ≡ []
 marked-none endless e = refl
 marked-none (listed rows) e = absurd (subst⁻¹ T e tt)
+
+-- ---- what is told in all
+
+-- The counts grow by the numbers told, over any calls.
+counted : (bs : List ℕ) {s t : Store} {v w : View} {cs : List Call} {rs : List Reply} → Run bs s v cs rs t w → (w .opening ≡ v .opening) × (w .joined ≡ v .joined + joined-in rs) × (w .left ≡ v .left + left-in rs)
+counted bs ended = (refl, omega arith, omega arith)
+counted bs (call {s} {t} {v} {w} {c} {cs} {r} {rs} made run) =
+    let one = subst⁻¹ (Grown v) made (change-grown (c .kind) s v bs (c .tuple) (c .first) (c .second)) in
+    let rest = counted bs run in
+    (rest .0 ∙ one .0, omega (arith, rest .1, one .1), omega (arith, rest .2, one .2))
 
 -- ---- runs
 
@@ -87,6 +99,21 @@ module _ (bs : List ℕ) (s t : Store) (v w : View) (opened : opened-of s bs ≡
   pub run-balanced : w .opening + w .joined ≡ w .left + length (rows-in w)
   run-balanced =
       subst⁻¹ (λ u. u .opening + u .joined ≡ u .left + length (kept (answers-to t q))) (stands .view-is) (stands .state .balanced .counts) ∙ ap (λ rows. w .left + length rows) (sym rows-held)
+
+  -- They are of the rows at the opening, and of all that the replies told; so the rows at the opening and those told as joined are as many as those told as
+  -- left and the rows held.
+  pub run-counts : (w .opening ≡ length (rows-in v)) × (w .joined ≡ joined-in rs) × (w .left ≡ left-in rs)
+  run-counts =
+      let all = counted bs run in
+      let began = opened-is bs s v opened in
+      (
+        all .0 ∙ ap (λ u. u .opening) began ∙ ap length (sym (standing-rows bs q (opening-ledger q s) s v (opening-standing bs s v opened))),
+        all .1 ∙ ap (λ u. u .joined + joined-in rs) began ∙ omega arith,
+        all .2 ∙ ap (λ u. u .left + left-in rs) began ∙ omega arith,
+      )
+
+  pub run-adds-up : length (rows-in v) + joined-in rs ≡ left-in rs + length (rows-in w)
+  run-adds-up = (λ i. sym (run-counts .0) i + sym (run-counts .1) i) ∙ run-balanced ∙ ap (λ n. n + length (rows-in w)) (run-counts .2)
 
   -- A call after it, where it is accepted, reports exactly the rows that joined and left: each in the list now and not before, or before and not now; ascending.
   pub run-reports : (c : Call) (r : Reply) → Ensured bs t w c r → r .0 .answer ≡ Done →

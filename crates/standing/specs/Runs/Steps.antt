@@ -313,6 +313,12 @@ opening-accepted : (a : Outcome) (cols : List ℕ) (found : Answers) (v : View) 
 opening-accepted Done cols found v e = (refl, ap (λ r. r .view) (sym e))
 opening-accepted (Refused n p) cols found v e = absurd (subst (λ r. T (not (is-done (r .answer)))) e tt)
 
+pub opened-is : (bs : List ℕ) (s : Store) (v : View) → opened-of s bs ≡ record { answer = Done; view = v } → v ≡ list-of bs (query-read s bs) s (length (kept (answers-to s (query-read s bs)))) 0 0
+opened-is bs s v opened =
+    let q : Query = query-read s bs in
+    let found : Answers = answers-to s q in
+    opening-accepted (first-cause (begin-checks s bs ++ over-checks found)) (columns (formula q)) found v opened .1
+
 -- That list stands for the ledger of the opening.
 pub opening-standing : (bs : List ℕ) (s : Store) (v : View) → opened-of s bs ≡ record { answer = Done; view = v } → Standing bs (query-read s bs) (opening-ledger (query-read s bs) s) s v
 opening-standing bs s v opened =
