@@ -947,14 +947,18 @@ def random_run(rng, i, long):
     widths = [1, 2, 3, 4] + [0] * 12
     record_of = lambda r: (r, *(rng.choice(values) if k <= r else 0 for k in range(4)))
     records = sorted({record_of(rng.randrange(4)) for _ in range(rng.choice([0, 2, 5, 10]))})
-    data = random_query(rng, values)
-    several = lambda query: len(found(Store(widths, records), query, False)[1] or []) > 1
-    if rng.random() < 0.6:
-        data = next(filter(several, (random_query(rng, values) for _ in range(20))), data)
-    elif rng.random() < 0.6:
-        data = turning_query(rng, values)
+    relations_of = lambda reading: [w >> 25 & 15 for w in reading[3] if w >> 29 == 1] if reading[0] == "accepted" else []
+
+    def moves(query):
+        """How many of six changes of one record change the rows."""
+        reading = read(list(query), widths)
+        changed = [sorted({*records} ^ {record_of(r)}) for r in rng.choices(relations_of(reading), k=6)] if relations_of(reading) else []
+        return sum(ledger.found(reading[1:], now) != ledger.found(reading[1:], records) for now in changed)
+
+    sort = rng.random()
+    data = turning_query(rng, values) if sort < 0.25 else random_query(rng, values) if sort < 0.4 else max((random_query(rng, values) for _ in range(8)), key=moves)
     reading = read(list(data), widths)
-    named = [w >> 25 & 15 for w in reading[3] if w >> 29 == 1] if reading[0] == "accepted" else []
+    named = relations_of(reading)
     calls, held = [], set(records)  # about those held: a call may be refused
     for _ in range(long):
         r = record_of(rng.choice(named)) if named and rng.random() < 0.8 else record_of(rng.randrange(4))
