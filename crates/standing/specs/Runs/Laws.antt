@@ -105,8 +105,7 @@ module _ (bs : List ℕ) (s t : Store) (v w : View) (opened : opened-of s bs ≡
   pub run-counts : (w .opening ≡ length (rows-in v)) × (w .joined ≡ joined-in rs) × (w .left ≡ left-in rs)
   run-counts =
       let all = counted bs run in
-      let began = opened-is bs s v opened in
-      (
+      let began = opened-is bs s v opened in (
         all .0 ∙ ap (λ u. u .opening) began ∙ ap length (sym (standing-rows bs q (opening-ledger q s) s v (opening-standing bs s v opened))),
         all .1 ∙ ap (λ u. u .joined + joined-in rs) began ∙ omega arith,
         all .2 ∙ ap (λ u. u .left + left-in rs) began ∙ omega arith,
