@@ -313,39 +313,38 @@ opening-accepted : (a : Outcome) (cols : List ℕ) (found : Answers) (v : View) 
 opening-accepted Done cols found v e = (refl, ap (λ r. r .view) (sym e))
 opening-accepted (Refused n p) cols found v e = absurd (subst (λ r. T (not (is-done (r .answer)))) e tt)
 
-pub opened-is : (bs : List ℕ) (s : Store) (v : View) → opened-of s bs ≡ record { answer = Done; view = v } → v ≡ list-of bs (query-read s bs) s (length (kept (answers-to s (query-read s bs)))) 0 0
-opened-is bs s v opened =
-    let q : Query = query-read s bs in
-    let found : Answers = answers-to s q in
-    opening-accepted (first-cause (begin-checks s bs ++ over-checks found)) (columns (formula q)) found v opened .1
+module _ (bs : List ℕ) (s : Store) (v : View) (opened : opened-of s bs ≡ record { answer = Done; view = v }) where
+  abbrev asked : Query
+  asked = query-read s bs
 
--- That list stands for the ledger of the opening.
-pub opening-standing : (bs : List ℕ) (s : Store) (v : View) → opened-of s bs ≡ record { answer = Done; view = v } → Standing bs (query-read s bs) (opening-ledger (query-read s bs) s) s v
-opening-standing bs s v opened =
-    record {
-      opening = length (kept found);
-      joined = 0;
-      left = 0;
-      state =
-          record {
-            judged = begun-judged s bs begun;
-            read = later-done (store-checks s) (read-checks (s .widths) bs) begun;
-            query-is = refl;
-            few = ltb-false 512 (length (kept found)) (first-clear 17 (is-over (length (kept found))) [] (later-done (begin-checks s bs) (over-checks found) (accepted .0)) .0);
-            balanced = opens-balanced q s (opening-ledger q s) (opening-opens q s);
-          };
-      ledger-is = refl;
-      view-is = accepted .1;
-    }
-  where
-    q : Query
-    q = query-read s bs
+  abbrev answered : Answers
+  answered = answers-to s asked
 
-    found : Answers
-    found = answers-to s q
+  -- No cause is met, and the list is that of the rows found.
+  accepted : (first-cause (begin-checks s bs ++ over-checks answered) ≡ Done) × (v ≡ list-of bs asked s (length (kept answered)) 0 0)
+  accepted = opening-accepted (first-cause (begin-checks s bs ++ over-checks answered)) (columns (formula asked)) answered v opened
 
-    accepted : (first-cause (begin-checks s bs ++ over-checks found) ≡ Done) × (v ≡ view-of (columns (formula q)) found (length (kept found)) 0 0)
-    accepted = opening-accepted (first-cause (begin-checks s bs ++ over-checks found)) (columns (formula q)) found v opened
+  pub opened-is : v ≡ list-of bs (query-read s bs) s (length (kept (answers-to s (query-read s bs)))) 0 0
+  opened-is = accepted .1
 
-    begun : first-cause (begin-checks s bs) ≡ Done
-    begun = first-done (begin-checks s bs) (over-checks found) (accepted .0)
+  begun : first-cause (begin-checks s bs) ≡ Done
+  begun = first-done (begin-checks s bs) (over-checks answered) (accepted .0)
+
+  -- That list stands for the ledger of the opening.
+  pub opening-standing : Standing bs (query-read s bs) (opening-ledger (query-read s bs) s) s v
+  opening-standing =
+      record {
+        opening = length (kept answered);
+        joined = 0;
+        left = 0;
+        state =
+            record {
+              judged = begun-judged s bs begun;
+              read = later-done (store-checks s) (read-checks (s .widths) bs) begun;
+              query-is = refl;
+              few = ltb-false 512 (length (kept answered)) (first-clear 17 (is-over (length (kept answered))) [] (later-done (begin-checks s bs) (over-checks answered) (accepted .0)) .0);
+              balanced = opens-balanced asked s (opening-ledger asked s) (opening-opens asked s);
+            };
+        ledger-is = refl;
+        view-is = opened-is;
+      }
