@@ -11,6 +11,8 @@ mod unpack;
 use causes::Answer;
 use causes::RELATIONS;
 pub use free::is_free;
+pub use unpack::wide;
+pub use unpack::word;
 ghost use mathlib.Core.Path.{_≡_};
 ghost use Rattle.query.specs.Reading.{read-of, refusal};
 

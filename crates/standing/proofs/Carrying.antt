@@ -10,10 +10,11 @@ use lib.ListN.{length, getD, take, drop, set, length-append, length-drop, length
 use lib.Seq.{getD-drop, take-suc, take-take, drop-drop, take-at, drop-at, length-take-le, paste, paste-suc}
 use Rattle.calculus.specs.Sets.Laws.{union-append}
 use Rattle.calculus.specs.Rows.{Row}
-use Rattle.answer.specs.Listing.{numbers}
-use Rattle.standing.specs.View.{lines, stored, cut}
+use Rattle.answer.specs.Listing.{numbers, cut}
+use Rattle.answer.specs.Listing.Cut.{length-cut, cut-width, cut-next}
+use Rattle.standing.specs.View.{lines, stored}
 use Rattle.answer.specs.Listing.Rows.{numbers-width}
-use Rattle.standing.specs.View.Laws.{length-lines, getD-lines, line-taken, width-rows, stored-next, length-cut, cut-width, cut-next}
+use Rattle.standing.specs.View.Laws.{length-lines, getD-lines, line-taken, width-rows, stored-next}
 use Rattle.standing.specs.Change.{fronted}
 
 -- ---- numbers from one list to another

@@ -23,14 +23,15 @@ use Rattle.query.specs.declared.Query.{Query}
 use Rattle.query.specs.declared.Columns.{Columns}
 use Rattle.query.specs.Reading.{formula}
 use Rattle.answer.specs.declared.Found.{Found}
-use Rattle.answer.specs.Listing.{numbers}
+use Rattle.answer.specs.Listing.{numbers, cut, Width}
+use Rattle.answer.specs.Listing.Cut.{cut-numbers}
 use Rattle.answer.specs.Reply.{answers-to, exceeds, found-reply, Evaluable, evaluated}
 use Rattle.standing.specs.declared.Rows.{Rows}
 use Rattle.standing.specs.declared.View.{View}
 use Rattle.standing.specs.declared.Current.{Current}
 use Rattle.standing.specs.declared.Change.{Change}
-use Rattle.standing.specs.View.{lines-held, stored, rows-in, kept, mark, cut, InOrder}
-use Rattle.standing.specs.View.Laws.{Width, lines-stored, rows-stored, stored-padded, cut-numbers}
+use Rattle.standing.specs.View.{lines-held, stored, rows-in, kept, mark, InOrder}
+use Rattle.standing.specs.View.Laws.{lines-stored, rows-stored, stored-padded}
 use Rattle.standing.specs.View.Difference.{padded-ascending, only-in-padded, only-in-width, only-in-fewer}
 use Rattle.standing.specs.View.Layout.{Layout, suited}
 use Rattle.standing.specs.Checks.{is-over, report-checks}

@@ -16,8 +16,9 @@ use Rattle.calculus.specs.Order.Laws.{ascending-at}
 use Rattle.calculus.specs.Rows.{Row, row-below, only-in}
 use Rattle.calculus.specs.Rows.Laws.{row-order}
 use Rattle.standing.specs.declared.Rows.{Rows}
+use Rattle.answer.specs.Listing.{Width}
 use Rattle.standing.specs.View.{line-at, lines, stored, Passed, Parted}
-use Rattle.standing.specs.View.Laws.{Width, length-lines, getD-lines, line-taken, width-first, stored-none, length-stored, stored-next}
+use Rattle.standing.specs.View.Laws.{length-lines, getD-lines, line-taken, width-first, stored-none, length-stored, stored-next}
 use Rattle.standing.specs.View.Layout.{length-first, getD-first}
 use Rattle.standing.specs.View.Difference.{parted-in, only-in-width, only-in-fewer, only-in-also, only-in-without}
 

@@ -1,6 +1,6 @@
 -- The materialized view of a query, document 01's *standing list* ("Rows, endless and listed"), and its layout, cause 12. Definitions only; the laws are in
 -- View/Laws.antt, View/Difference.antt and View/Layout.antt.
-use Prim.Native.Nat.{ℕ, zero, suc, _+_, _*_, _≤_, _<_}
+use Prim.Native.Nat.{ℕ, _+_, _*_, _≤_, _<_}
 use mathlib.Core.Path.{_≡_}
 use mathlib.Core.Bool.{Bool, true, false, not, _&&_}
 use mathlib.Core.List.{List, [], _∷_, map}
@@ -98,11 +98,6 @@ view-of cols found opening joined left =
     record { columns = columns-of cols; rows = stored (kept found); endless = mark found; opening = opening; joined = joined; left = left }
 
 -- ---- how the code goes about it
-
--- The n rows of k values that stand one after the other in a list.
-abbrev pub cut : ℕ → ℕ → List ℕ → List Row
-cut k zero xs = []
-cut k (suc n) xs = take k xs ∷ cut k n (drop k xs)
 
 -- At most 512 rows, strictly ascending in their places.
 abbrev pub InOrder : Rows → Type 0

@@ -25,11 +25,11 @@ use Rattle.tables.specs.Store.{facts}
 use Rattle.query.specs.declared.Query.{Query}
 use Rattle.query.specs.Reading.{pool, formula}
 use Rattle.answer.specs.Reply.{answers-to}
+use Rattle.answer.specs.Listing.{Width}
 use Rattle.standing.specs.declared.View.{View}
 use Rattle.standing.specs.declared.Current.{Current}
 use Rattle.standing.specs.declared.Change.{Change}
 use Rattle.standing.specs.View.{stored, kept, mark}
-use Rattle.standing.specs.View.Laws.{Width}
 use Rattle.standing.specs.Checks.{is-over, is-past, report-checks}
 use Rattle.standing.specs.Change.{joining, leaving, turn-reply, refusal, current, settled}
 

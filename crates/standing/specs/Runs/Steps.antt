@@ -20,12 +20,11 @@ use Rattle.tables.specs.declared.Store.{Store}
 use Rattle.tables.specs.Store.{held, judgement, store-checks}
 use Rattle.query.specs.declared.Query.{Query}
 use Rattle.query.specs.Reading.{formula, columns-of, read-checks}
-use Rattle.answer.specs.Listing.{numbers}
+use Rattle.answer.specs.Listing.{numbers, Width}
 use Rattle.answer.specs.Listing.Rows.{numbers-width}
 use Rattle.answer.specs.Reply.{answers-to, query-read}
 use Rattle.standing.specs.declared.View.{View}
 use Rattle.standing.specs.View.{rows-in, kept, mark, view-of, suits, QueryColumns}
-use Rattle.standing.specs.View.Laws.{Width}
 use Rattle.standing.specs.View.Difference.{only-in-width}
 use Rattle.standing.specs.View.Layout.{query-columns, rows-of-view, view-suits}
 use Rattle.standing.specs.Checks.{record-checks, records-after, is-over, is-past, report-checks, view-checks}

@@ -20,8 +20,8 @@ use Rattle.calculus.specs.Order.{Ascending, is-ascending, leads}
 use Rattle.calculus.specs.Order.Laws.{below-differs, reflects-ascending, ascending-at, select-length}
 use Rattle.calculus.specs.Rows.{Row, row-below, only-in}
 use Rattle.calculus.specs.Rows.Laws.{row-order, reflects-in-rows}
+use Rattle.answer.specs.Listing.{Width}
 use Rattle.standing.specs.View.{Parted}
-use Rattle.standing.specs.View.Laws.{Width}
 
 -- ---- rows filled up with zeros
 

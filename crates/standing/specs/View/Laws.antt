@@ -2,24 +2,19 @@
 -- The values of stored rows are the numbers of 512 lines of four, and a list of lines is got back from its numbers.
 use Prim.Native.Nat.{ℕ, zero, suc, _+_, _*_, _-_, _≤_, _<_}
 use native.Mathlib.Omega.{arith}
-use native.Mathlib.Nat.{zero-mul, suc-mul}
 use mathlib.Core.Path.{_≡_, refl, sym, ap, _∙_}
 use mathlib.Core.Logic.{⊎-elim}
 use mathlib.Core.List.{List, [], _∷_, _++_, map, map-append, append-assoc, append-nil}
-use lib.ListN.{length, getD, take, drop, replicate, length-append, length-drop, length-map, length-replicate}
+use lib.ListN.{length, getD, take, drop, replicate, length-append, length-map, length-replicate}
 use lib.Seq.{length-take-le, drop-cons, drop-drop, drop-append-le, append-snoc, getD-append-add, take-at, drop-at}
 use Rattle.calculus.specs.Sets.{In, here, there, union-of}
-use Rattle.calculus.specs.Sets.Laws.{in-append, in-nil, from-map, union-append}
+use Rattle.calculus.specs.Sets.Laws.{in-append, from-map, union-append}
 use Rattle.calculus.specs.Lists.{tabulate, padded}
 use Rattle.calculus.specs.Lists.Laws.{length-tabulate, getD-tabulate, length-padded, from-tabulate, tabulate-same, drop-replicate}
 use Rattle.calculus.specs.Rows.{Row}
-use Rattle.answer.specs.Listing.{numbers}
+use Rattle.answer.specs.Listing.{numbers, Width}
 use Rattle.answer.specs.Listing.Rows.{numbers-width}
-use Rattle.standing.specs.View.{line-at, lines, lines-held, lines-unused, stored, cut}
-
--- Every row has k values.
-abbrev pub Width : ℕ → List Row → Type 0
-Width k rows = (w : Row) → In w rows → length w ≡ k
+use Rattle.standing.specs.View.{line-at, lines, lines-held, lines-unused, stored}
 
 -- ---- the places of the values
 
@@ -212,32 +207,3 @@ module _ (k : ℕ) (few : k ≤ 4) (rows : List Row) (h : length rows ≤ 512) (
           ∙ ap (λ rs. numbers (rs ++ replicate left no-line)) (map-append (padded 4 0) rows (r ∷ []))
           ∙ ap numbers (append-snoc mine (padded 4 0 r) (replicate left no-line))
           ∙ union-append (λ w. w) mine (padded 4 0 r ∷ replicate left no-line)
-
--- ---- rows that stand one after the other
-
--- They are n,
-pub length-cut : (k n : ℕ) (xs : List ℕ) → length (cut k n xs) ≡ n
-length-cut k zero xs = refl
-length-cut k (suc n) xs = ap suc (length-cut k n (drop k xs))
-
--- of k values where there are enough.
-pub cut-width : (k n : ℕ) (xs : List ℕ) → n * k ≤ length xs → Width k (cut k n xs)
-cut-width k zero xs h w i = absurd (in-nil i)
-cut-width k (suc n) xs h w (here e) = ap length e ∙ length-take-le k xs (omega (arith, suc-mul n k))
-cut-width k (suc n) xs h w (there i) = cut-width k n (drop k xs) (omega (arith, suc-mul n k, length-drop k xs)) w i
-
--- One row more is cut at the end.
-pub cut-next : (k n : ℕ) (xs : List ℕ) → cut k (suc n) xs ≡ cut k n xs ++ (take k (drop (n * k) xs) ∷ [])
-cut-next k zero xs = ap (λ (m : ℕ). take k (drop m xs) ∷ []) (sym (zero-mul k))
-cut-next k (suc n) xs =
-    let e : k + n * k ≡ suc n * k = omega (arith, suc-mul n k) in
-    ap (λ (rs : List Row). take k xs ∷ rs) (cut-next k n (drop k xs))
-    ∙ ap (λ (ys : List ℕ). take k xs ∷ (cut k n (drop k xs) ++ (take k ys ∷ []))) (drop-drop (n * k) k xs ∙ ap (λ (m : ℕ). drop m xs) e)
-
--- Rows are cut from their own numbers.
-pub cut-numbers : (k : ℕ) (rows : List Row) (rest : List ℕ) → Width k rows → cut k (length rows) (numbers rows ++ rest) ≡ rows
-cut-numbers k [] rest w = refl
-cut-numbers k (r ∷ rows) rest w =
-    let e : length r ≡ k = w r (here refl) in
-    ap (cut k (suc (length rows))) (append-assoc r (numbers rows) rest)
-    ∙ (λ j. take-at r (numbers rows ++ rest) k e j ∷ (ap (cut k (length rows)) (drop-at r (numbers rows ++ rest) k e) ∙ cut-numbers k rows rest (λ u i. w u (there i))) j)

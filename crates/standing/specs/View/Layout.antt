@@ -26,8 +26,9 @@ use Rattle.verdict.specs.Generating.{variables-in}
 use Rattle.verdict.specs.Verdict.Laws.{column-small}
 use Rattle.standing.specs.declared.Rows.{Rows}
 use Rattle.standing.specs.declared.View.{View}
+use Rattle.answer.specs.Listing.{Width}
 use Rattle.standing.specs.View.{line-at, lines, lines-held, lines-unused, ends, stored, columns-in, rows-in, columns-fit, rows-fit, counts-fit, view-fits, suits, kept, mark, view-of, QueryColumns}
-use Rattle.standing.specs.View.Laws.{Width, length-lines, getD-lines, width-first, width-rows, lines-stored, unused-stored, rows-stored}
+use Rattle.standing.specs.View.Laws.{length-lines, getD-lines, width-first, width-rows, lines-stored, unused-stored, rows-stored}
 use Rattle.standing.specs.View.Difference.{padded-ascends}
 
 -- ---- zeros past the values
