@@ -188,6 +188,16 @@ module _ (ws bs : List ℕ) where
   pub read-headed : read-of ws bs .answer ≡ Done → Headed bs
   read-headed h = header-done ws bs Done (sym (first-done (header-checks ws bs) (tree-checks ws (count-of-constants bs) (nodes-of bs) ++ column-checks (nodes-of bs)) (read-cause Done h))) refl
 
+  tree-clear : read-of ws bs .answer ≡ Done → AllClear (tree-checks ws (count-of-constants bs) (nodes-of bs) ++ column-checks (nodes-of bs))
+  tree-clear h = checks-clear h .1 .1 .1 .1
+
+  few-free : read-of ws bs .answer ≡ Done → length (columns (root (nodes-of bs))) ≤ max-columns
+  few-free h = ltb-false max-columns (length (columns (root (nodes-of bs)))) (when-clear (ltb max-columns (length (columns (root (nodes-of bs))))) (tree-clear h .1 .1 .1 .1 .0))
+
+  -- It has at most four columns.
+  pub read-few : read-of ws bs .answer ≡ Done → length (columns (formula (read-of ws bs .query))) ≤ max-columns
+  read-few h = subst⁻¹ (λ φ. length (columns φ) ≤ max-columns) (read-formula h) (few-free h)
+
   pub read-columns : read-of ws bs .answer ≡ Done → read-of ws bs .columns ≡ columns-of (columns (formula (read-of ws bs .query)))
   read-columns h = ap (λ r. r .columns) (read-done h) ∙ ap (λ φ. columns-of (columns φ)) (sym (read-formula h))
 
@@ -207,20 +217,17 @@ nodes-length bs = length-tabulate (λ i. word-at bs (2 + 4 * count-of-constants 
 
 -- The constants are 32-bit numbers.
 module _ (ws bs : List ℕ) (small : (v : ℕ) → In v (constants-of bs) → v < 2 ^ 32) (h : read-of ws bs .answer ≡ Done) where
-  tree-clear : AllClear (tree-checks ws (count-of-constants bs) (nodes-of bs) ++ column-checks (nodes-of bs))
-  tree-clear = checks-clear ws bs h .1 .1 .1 .1
-
   pub read-checked : Checked ws (constants-of bs) (nodes-of bs)
   read-checked = record {
     widths = read-widths ws bs h;
     some-node = rw nodes-length (read-headed ws bs h .some-nodes);
     few-nodes = rw nodes-length (read-headed ws bs h .few-nodes);
     few-constants = rw constants-length (read-headed ws bs h .few-constants);
-    formed = lowest-clear (λ i. malformed (getD (nodes-of bs) i 0)) (length (nodes-of bs)) (tree-clear .0);
-    placed = lowest-clear (misplaced (nodes-of bs)) (length (nodes-of bs)) (tree-clear .1 .0);
-    constants-held = (λ i l. subst⁻¹ (λ k. strays k (getD (nodes-of bs) i 0) ≡ false) (constants-length bs) (lowest-clear (λ j. strays (count-of-constants bs) (getD (nodes-of bs) j 0)) (length (nodes-of bs)) (tree-clear .1 .1 .0) i l));
-    relations-held = lowest-clear (λ i. mismatched ws (getD (nodes-of bs) i 0)) (length (nodes-of bs)) (tree-clear .1 .1 .1 .0);
-    few-columns = ltb-false max-columns (length (columns (root (nodes-of bs)))) (when-clear (ltb max-columns (length (columns (root (nodes-of bs))))) (tree-clear .1 .1 .1 .1 .0));
+    formed = lowest-clear (λ i. malformed (getD (nodes-of bs) i 0)) (length (nodes-of bs)) (tree-clear ws bs h .0);
+    placed = lowest-clear (misplaced (nodes-of bs)) (length (nodes-of bs)) (tree-clear ws bs h .1 .0);
+    constants-held = (λ i l. subst⁻¹ (λ k. strays k (getD (nodes-of bs) i 0) ≡ false) (constants-length bs) (lowest-clear (λ j. strays (count-of-constants bs) (getD (nodes-of bs) j 0)) (length (nodes-of bs)) (tree-clear ws bs h .1 .1 .0) i l));
+    relations-held = lowest-clear (λ i. mismatched ws (getD (nodes-of bs) i 0)) (length (nodes-of bs)) (tree-clear ws bs h .1 .1 .1 .0);
+    few-columns = few-free ws bs h;
     constants-fit = small;
   }
 

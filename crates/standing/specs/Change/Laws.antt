@@ -5,21 +5,19 @@ use mathlib.Core.Bool.{Bool, true, false, not, cond}
 use mathlib.Core.List.{List, [], _∷_, _++_}
 use lib.ListN.{length, getD, replicate}
 use lib.Seq.{take-append-seam}
-use borrow.Author.Tests.{ltb-false}
 use Rattle.calculus.specs.Generators.{columns}
 use Rattle.calculus.specs.Rows.{Answers}
 use Rattle.causes.specs.declared.Answer.{Answer}
 use Rattle.causes.specs.declared.Answer.the-variants.{Done, Refused}
-use Rattle.causes.specs.Causes.{Check, check, first-cause, when}
-use Rattle.causes.specs.Causes.Laws.{then-done, then-refused, first-done, later-done, first-clear}
+use Rattle.causes.specs.Causes.{check, first-cause, when}
+use Rattle.causes.specs.Causes.Laws.{then-done, then-refused, first-done, later-done}
 use Rattle.tables.specs.declared.Store.{Store}
 use Rattle.tables.specs.Store.{store-checks, judgement}
 use Rattle.tables.specs.Store.Laws.{judged-layout}
 use Rattle.query.specs.declared.Reading.{Reading}
-use Rattle.query.specs.Decoding.{root}
-use Rattle.query.specs.Reading.{max-columns, constants-of, nodes-of, count-of-constants, header-checks, tree-checks, column-checks, read-checks, read-reply, formula, columns-of, read-of}
+use Rattle.query.specs.Reading.{max-columns, constants-of, nodes-of, read-checks, read-reply, formula, columns-of, read-of}
 use Rattle.query.specs.Accepted.{Accepted}
-use Rattle.query.specs.Accepted.Laws.{read-cause, read-formula, read-columns, reading-accepted}
+use Rattle.query.specs.Accepted.Laws.{read-cause, read-few, read-columns, reading-accepted}
 use Rattle.verdict.specs.Generating.{variables-in}
 use Rattle.answer.specs.Reply.{answers-to, query-read, Evaluable}
 use Rattle.standing.specs.declared.View.{View}
@@ -43,14 +41,8 @@ module _ (s : Store) (bs : List ℕ) (done : first-cause (begin-checks s bs) ≡
   begun-read = ap (λ a. read-reply a (constants-of bs) (nodes-of bs) .answer) reads
 
   -- It has at most four columns.
-  column-check : first-cause (column-checks (nodes-of bs)) ≡ Done
-  column-check =
-      let trees : List Check = tree-checks (s .widths) (count-of-constants bs) (nodes-of bs) in
-      let rest : List Check = trees ++ column-checks (nodes-of bs) in
-      later-done trees (column-checks (nodes-of bs)) (later-done (header-checks (s .widths) bs) rest reads)
-
   pub begun-few : length (columns (formula (query-read s bs))) ≤ 4
-  begun-few = subst⁻¹ (λ φ. length (columns φ) ≤ max-columns) (read-formula (s .widths) bs begun-read) (ltb-false max-columns (length (columns (root (nodes-of bs)))) (first-clear 10 _ [] column-check .0))
+  begun-few = read-few (s .widths) bs begun-read
 
   -- Its columns come with it.
   pub begun-columns : read-of (s .widths) bs .columns ≡ columns-of (columns (formula (query-read s bs)))

@@ -1,0 +1,146 @@
+-- The packed input: document 01, "The list program and the host", and what the calls over it reply. Definitions only; the laws are in Packed/Laws.antt.
+use Prim.Native.Nat.{ℕ, _+_, _*_}
+use mathlib.Core.Bool.{Bool, false, not, _&&_}
+use mathlib.Core.List.{List, [], _∷_, _++_}
+use lib.ListN.{length, take, drop}
+use lib.Dec.{leb}
+use Rattle.calculus.specs.Lists.{tabulate}
+use Rattle.calculus.specs.Order.{insert}
+use Rattle.calculus.specs.Generators.{columns, verdict, safe}
+use Rattle.calculus.specs.Rows.{Answers}
+use Rattle.causes.specs.declared.Answer.{Answer}
+use Rattle.causes.specs.declared.Answer.the-variants.{Done, Refused}
+use Rattle.causes.specs.Causes.{Check, check, first-cause, when}
+use Rattle.tables.specs.declared.Record.{Record}
+use Rattle.tables.specs.declared.Store.{Store}
+use Rattle.tables.specs.Records.{record-below, fits}
+use Rattle.tables.specs.Store.{capacity, no-store}
+use Rattle.tables.specs.Change.{is-held}
+use Rattle.tables.specs.Fill.{fill-reply}
+use Rattle.query.specs.declared.Query.{Query}
+use Rattle.query.specs.declared.Columns.{Columns}
+use Rattle.query.specs.Reading.{byte-at, word-at, read-of, read-checks, query-of, columns-of, formula}
+use Rattle.verdict.specs.declared.Verdict.{Verdict}
+use Rattle.verdict.specs.Verdict.{judged, refusal as verdict-refusal}
+use Rattle.answer.specs.declared.Found.{Found}
+use Rattle.answer.specs.Reply.{answers-to, row-checks, worked}
+use Rattle.packed.specs.declared.Input.{Input}
+use Rattle.packed.specs.declared.Listing.{Listing}
+pub mod Laws
+pub mod Told
+pub mod Right
+
+-- ---- the parts, all high byte first
+
+-- Sixteen width bytes.
+abbrev pub widths-in : List ℕ → List ℕ
+widths-in bs = take 16 bs
+
+-- A record count of 2 bytes.
+abbrev pub count-in : List ℕ → ℕ
+count-in bs = byte-at bs 16 * 256 + byte-at bs 17
+
+-- Records of 17 bytes: a relation, and four values of 4 bytes.
+abbrev pub record-from : List ℕ → ℕ → Record
+record-from bs i =
+    record {
+      relation = byte-at bs i;
+      first = word-at bs (i + 1);
+      second = word-at bs (i + 5);
+      third = word-at bs (i + 9);
+      fourth = word-at bs (i + 13);
+    }
+
+abbrev pub record-at : List ℕ → ℕ → Record
+record-at bs i = record-from bs (18 + 17 * i)
+
+abbrev pub records-in : List ℕ → List Record
+records-in bs = tabulate (record-at bs) (count-in bs)
+
+-- Then the query, which starts where the records end.
+abbrev pub query-in : List ℕ → List ℕ
+query-in bs = drop (18 + 17 * count-in bs) bs
+
+-- ---- the checks
+
+-- Cause 2: an input that ends early, before its query, or is over 8,192 bytes.
+abbrev pub is-whole : List ℕ → Bool
+is-whole bs = leb (length bs) 8192 && leb 18 (length bs) && leb (18 + 17 * count-in bs) (length bs)
+
+-- Each record in turn meets 13, then 15, with the records ps held before it; a repeat takes no place.
+abbrev pub record-checks : List ℕ → List Record → List Record → List Check
+record-checks ws ps [] = []
+record-checks ws ps (r ∷ rs) =
+    check 13 (when (not (fits ws r)))
+    ∷ check 15 (when (not (is-held r ps) && leb capacity (length ps)))
+    ∷ record-checks ws (insert record-below r ps) rs
+
+-- 2 before 1; then the causes by number, the query's before the records'.
+abbrev pub input-checks : List ℕ → List Check
+input-checks bs =
+    check 2 (when (not (is-whole bs)))
+    ∷ (read-checks (widths-in bs) (query-in bs) ++ record-checks (widths-in bs) [] (records-in bs))
+
+-- ---- what an input holds
+
+-- The store of its records, in any order, repeats kept once.
+abbrev pub store-in : List ℕ → Store
+store-in bs = fill-reply (widths-in bs) (records-in bs) .store
+
+-- The query as read.
+abbrev pub query-read : List ℕ → Query
+query-read bs = read-of (widths-in bs) (query-in bs) .query
+
+abbrev pub refusal : ℕ → ℕ → Input
+refusal n p = record { answer = Refused n p; store = no-store; query = query-of [] []; columns = columns-of [] }
+
+abbrev pub input-reply : Answer → List ℕ → Input
+input-reply Done bs = record { answer = Done; store = store-in bs; query = query-read bs; columns = columns-of (columns (formula (query-read bs))) }
+input-reply (Refused n p) bs = refusal n p
+
+abbrev pub input-of : List ℕ → Input
+input-of bs = input-reply (first-cause (input-checks bs)) bs
+
+-- ---- the verdict on its query
+
+abbrev pub judged-reply : Answer → Query → Verdict
+judged-reply Done q = judged q
+judged-reply (Refused n p) q = verdict-refusal n p
+
+abbrev pub judged-of : List ℕ → Verdict
+judged-of bs = judged-reply (first-cause (input-checks bs)) (query-read bs)
+
+-- ---- its list
+
+-- What the query answers over the records.
+abbrev pub answers-in : List ℕ → Answers
+answers-in bs = answers-to (store-in bs) (query-read bs)
+
+-- Cause 18 comes last: rows × columns over the room.
+abbrev pub list-checks : List ℕ → ℕ → List Check
+list-checks bs room = input-checks bs ++ row-checks (store-in bs) (query-read bs) room
+
+abbrev pub declined : ℕ → ℕ → Listing
+declined n p = record { answer = Refused n p; safe = false; columns = columns-of []; endless = false; rows = 0 }
+
+-- What was found, with the verdict and the columns of the query beside it.
+abbrev pub beside : Found → Bool → Columns → Listing
+beside f safe cols = record { answer = Done; safe = safe; columns = cols; endless = f .endless; rows = f .rows }
+
+-- Endless or rows as the answers call has them, with the rows at the front of the buffer.
+abbrev pub listing-reply : Answer → Query → Answers → List ℕ → Listing × List ℕ
+listing-reply Done q found buffer =
+    (beside (worked found buffer .0) (safe (verdict (formula q))) (columns-of (columns (formula q))), worked found buffer .1)
+listing-reply (Refused n p) q found buffer = (declined n p, buffer)
+
+abbrev pub listing-of : List ℕ → List ℕ → Listing × List ℕ
+listing-of bs buffer = listing-reply (first-cause (list-checks bs (length buffer))) (query-read bs) (answers-in bs) buffer
+
+-- ---- how the code goes about it
+
+abbrev pub listing-by : Answer → Found → Bool → Columns → Listing
+listing-by Done f safe cols = beside f safe cols
+listing-by (Refused n p) f safe cols = declined n p
+
+abbrev pub listing-with : Found → Bool → Columns → Listing
+listing-with f safe cols = listing-by (f .answer) f safe cols

@@ -1,0 +1,187 @@
+-- Laws of the packed input: what it comes to at each cause that the code meets in turn, and what an accepted input promises. What the list's reply tells is in
+-- Packed/Told.antt.
+use Prim.Native.Nat.{ℕ, _+_, _*_, _≤_, _<_, _^_}
+use mathlib.Core.Path.{_≡_, refl, sym, ap, subst, subst⁻¹, _∙_}
+use mathlib.Core.Bool.{Bool, true, false, not, _&&_}
+use mathlib.Core.List.{List, [], _∷_, _++_}
+use lib.ListN.{length, getD}
+use lib.Dec.{T, leb}
+use Rattle.calculus.specs.Order.{insert}
+use Rattle.calculus.specs.Reflects.{reflects, confirmed-by, reflects-and, reflects-leb, reflects-T, reflects-true}
+use Rattle.calculus.specs.Generators.{columns, verdict, safe}
+use Rattle.calculus.specs.Rows.{Answers, endless, listed}
+use Rattle.causes.specs.declared.Answer.{Answer}
+use Rattle.causes.specs.declared.Answer.the-variants.{Done, Refused}
+use Rattle.causes.specs.Causes.{clear, met, Check, check, first-cause, when, widths-fit}
+use Rattle.causes.specs.Causes.Laws.{then-done, then-refused, first-done, later-done, first-passed}
+use Rattle.tables.specs.declared.Record.{Record}
+use Rattle.tables.specs.declared.Changed.{Changed}
+use Rattle.tables.specs.Records.{record-below, fits}
+use Rattle.tables.specs.Store.{capacity}
+use Rattle.tables.specs.Store.Laws.{reflects-layout}
+use Rattle.tables.specs.Change.{is-held}
+use Rattle.tables.specs.Fill.{unless-refused, fill-from, fill-reply}
+use Rattle.tables.specs.Fill.Laws.{fill-widths, fill-layout}
+use Rattle.query.specs.declared.Query.{Query}
+use Rattle.query.specs.declared.Columns.{Columns}
+use Rattle.query.specs.Reading.{constants-of, nodes-of, read-checks, read-reply, read-of, columns-of, formula}
+use Rattle.query.specs.Accepted.{Accepted}
+use Rattle.query.specs.Accepted.Laws.{read-few, read-cause, read-widths, read-columns, reading-accepted}
+use Rattle.verdict.specs.Verdict.{judged, refusal as verdict-refusal}
+use Rattle.answer.specs.Reply.{row-checks, found-reply, Evaluable, evaluated}
+use Rattle.packed.specs.declared.Input.{Input}
+use Rattle.packed.specs.declared.Listing.{Listing}
+use Rattle.packed.specs.Packed.{widths-in, count-in, records-in, query-in, is-whole, record-checks, input-checks, store-in, query-read, refusal, input-reply, input-of, judged-reply, judged-of, answers-in, list-checks, declined, listing-with, listing-reply, listing-of}
+
+-- ---- the parts
+
+-- A whole input has at most 8,192 bytes, and its widths, count and records.
+pub whole-lengths : (bs : List ℕ) → is-whole bs ≡ true → (length bs ≤ 8192) × (18 ≤ length bs) × (18 + 17 * count-in bs ≤ length bs)
+whole-lengths bs w =
+    let h = confirmed-by w (reflects-and (reflects-and (reflects-leb (length bs) 8192) (reflects-leb 18 (length bs))) (reflects-leb (18 + 17 * count-in bs) (length bs))) in
+    (h .0 .0, h .0 .1, h .1)
+
+-- What goes on where checks refuse nothing answers their first cause, or its own.
+unless-cause : (cs ds : List Check) (c : Changed) → c .answer ≡ first-cause ds → unless-refused (first-cause cs) c .answer ≡ first-cause (cs ++ ds)
+unless-cause [] ds c e = e
+unless-cause (check n clear ∷ cs) ds c e = unless-cause cs ds c e
+unless-cause (check n (met p) ∷ cs) ds c e = refl
+
+-- The rest of a filling, with the records ps held, answers the first cause of those that are left.
+fill-from-answer : (ws : List ℕ) (ps rs : List Record) → fill-from ws ps rs .answer ≡ first-cause (record-checks ws ps rs)
+fill-from-answer ws ps [] = refl
+fill-from-answer ws ps (r ∷ rs) =
+    let qs : List Record = insert record-below r ps in
+    unless-cause (check 13 (when (not (fits ws r))) ∷ check 15 (when (not (is-held r ps) && leb capacity (length ps))) ∷ []) (record-checks ws qs rs) (fill-from ws qs rs) (fill-from-answer ws qs rs)
+
+-- Filling answers the first cause of the records in turn.
+pub fill-answer : (ws : List ℕ) (rs : List Record) → T (widths-fit ws) → fill-reply ws rs .answer ≡ first-cause (record-checks ws [] rs)
+fill-answer ws rs f =
+    unless-cause (check 1 (when (not (widths-fit ws))) ∷ []) (record-checks ws [] rs) (fill-from ws [] rs) (fill-from-answer ws [] rs)
+    ∙ ap (λ b. first-cause (check 1 (when (not b)) ∷ record-checks ws [] rs)) (reflects-true (reflects-T (widths-fit ws)) f)
+
+-- ---- the input, cause by cause
+
+-- The checks after cause 2: the query's, then the records'.
+abbrev query-checks : List ℕ → List Check
+query-checks bs = read-checks (widths-in bs) (query-in bs)
+
+abbrev fill-checks : List ℕ → List Check
+fill-checks bs = record-checks (widths-in bs) [] (records-in bs)
+
+module _ (bs : List ℕ) where
+  -- The input by the first cause met.
+  input-by : (a : Answer) → first-cause (input-checks bs) ≡ a → input-of bs ≡ input-reply a bs
+  input-by a e = ap (λ b. input-reply b bs) e
+
+  -- Cause 2 is met or not, and the rest follows.
+  whole-decides : (b : Bool) → is-whole bs ≡ b → first-cause (input-checks bs) ≡ first-cause (check 2 (when (not b)) ∷ (query-checks bs ++ fill-checks bs))
+  whole-decides b w = ap (λ c. first-cause (check 2 (when (not c)) ∷ (query-checks bs ++ fill-checks bs))) w
+
+  pub input-short : is-whole bs ≡ false → input-of bs ≡ refusal 2 0
+  input-short w = input-by (Refused 2 0) (whole-decides false w)
+
+  module _ (w : is-whole bs ≡ true) where
+    pub input-unread : (n p : ℕ) → read-of (widths-in bs) (query-in bs) .answer ≡ Refused n p → input-of bs ≡ refusal n p
+    input-unread n p e = input-by (Refused n p) (whole-decides true w ∙ then-refused (query-checks bs) (fill-checks bs) n p (read-cause (widths-in bs) (query-in bs) (Refused n p) e))
+
+    module _ (r : read-of (widths-in bs) (query-in bs) .answer ≡ Done) where
+      -- The records are left.
+      records-decide : first-cause (input-checks bs) ≡ fill-reply (widths-in bs) (records-in bs) .answer
+      records-decide =
+          whole-decides true w
+          ∙ then-done (query-checks bs) (fill-checks bs) (read-cause (widths-in bs) (query-in bs) Done r)
+          ∙ sym (fill-answer (widths-in bs) (records-in bs) (read-widths (widths-in bs) (query-in bs) r))
+
+      pub input-unfilled : (n p : ℕ) → fill-reply (widths-in bs) (records-in bs) .answer ≡ Refused n p → input-of bs ≡ refusal n p
+      input-unfilled n p e = input-by (Refused n p) (records-decide ∙ e)
+
+      pub input-filled : fill-reply (widths-in bs) (records-in bs) .answer ≡ Done → input-of bs ≡ record { answer = Done; store = store-in bs; query = query-read bs; columns = read-of (widths-in bs) (query-in bs) .columns }
+      input-filled e = input-by Done (records-decide ∙ e) ∙ ap with-columns (sym (read-columns (widths-in bs) (query-in bs) r))
+        where
+          with-columns : Columns → Input
+          with-columns cols = record { answer = Done; store = store-in bs; query = query-read bs; columns = cols }
+
+-- ---- what it comes to
+
+input-reply-answer : (a : Answer) (bs : List ℕ) → input-reply a bs .answer ≡ a
+input-reply-answer Done bs = refl
+input-reply-answer (Refused n p) bs = refl
+
+-- The list's reply is what was found, with the verdict and the columns beside it.
+found-beside : (a : Answer) (q : Query) (found : Answers) (buffer : List ℕ) → let f = found-reply a found buffer in listing-reply a q found buffer ≡ (listing-with (f .0) (safe (verdict (formula q))) (columns-of (columns (formula q))), f .1)
+found-beside Done q endless buffer = refl
+found-beside Done q (listed rows) buffer = refl
+found-beside (Refused n p) q found buffer = refl
+
+module _ (bs : List ℕ) where
+  pub input-answer : input-of bs .answer ≡ first-cause (input-checks bs)
+  input-answer = input-reply-answer (first-cause (input-checks bs)) bs
+
+  -- The verdict by the first cause met, and the list by the first of its own.
+  judged-by : (a : Answer) → first-cause (input-checks bs) ≡ a → judged-of bs ≡ judged-reply a (query-read bs)
+  judged-by a e = ap (λ b. judged-reply b (query-read bs)) e
+
+  pub listing-by-cause : (buffer : List ℕ) (a : Answer) → first-cause (list-checks bs (length buffer)) ≡ a → listing-of bs buffer ≡ listing-reply a (query-read bs) (answers-in bs) buffer
+  listing-by-cause buffer a e = ap (λ b. listing-reply b (query-read bs) (answers-in bs) buffer) e
+
+  -- No cause is met: the query is read, with few columns, and the records fill a store.
+  module _ (c : first-cause (input-checks bs) ≡ Done) where
+    later-clear : first-cause (query-checks bs ++ fill-checks bs) ≡ Done
+    later-clear = first-passed 2 (is-whole bs) (query-checks bs ++ fill-checks bs) c .1
+
+    query-accepted : read-of (widths-in bs) (query-in bs) .answer ≡ Done
+    query-accepted = ap (λ a. read-reply a (constants-of (query-in bs)) (nodes-of (query-in bs)) .answer) (first-done (query-checks bs) (fill-checks bs) later-clear)
+
+    pub input-few : length (columns (formula (query-read bs))) ≤ 4
+    input-few = read-few (widths-in bs) (query-in bs) query-accepted
+
+    pub records-filled : fill-reply (widths-in bs) (records-in bs) .answer ≡ Done
+    records-filled = fill-answer (widths-in bs) (records-in bs) (read-widths (widths-in bs) (query-in bs) query-accepted) ∙ later-done (query-checks bs) (fill-checks bs) later-clear
+
+  -- Refused.
+  module _ (n p : ℕ) (e : input-of bs .answer ≡ Refused n p) where
+    pub input-refused : input-of bs ≡ refusal n p
+    input-refused = input-by bs (Refused n p) (sym input-answer ∙ e)
+
+    pub judged-refused : judged-of bs ≡ verdict-refusal n p
+    judged-refused = judged-by (Refused n p) (sym input-answer ∙ e)
+
+    pub listing-refused : (buffer : List ℕ) → listing-of bs buffer ≡ (declined n p, buffer)
+    listing-refused buffer = listing-by-cause buffer (Refused n p) (then-refused (input-checks bs) (row-checks (store-in bs) (query-read bs) (length buffer)) n p (sym input-answer ∙ e))
+
+  -- Or accepted: the query can be evaluated over the store, the constants being 32-bit numbers.
+  module _ (e : input-of bs .answer ≡ Done) where
+    unmet : first-cause (input-checks bs) ≡ Done
+    unmet = sym input-answer ∙ e
+
+    input-done : input-of bs ≡ input-reply Done bs
+    input-done = input-by bs Done unmet
+
+    pub input-evaluable : ((i : ℕ) → getD (input-of bs .query .constants) i 0 < 2 ^ 32) → Evaluable (input-of bs .store) (input-of bs .query) (input-of bs .columns)
+    input-evaluable small = subst⁻¹ (λ i. Evaluable (i .store) (i .query) (i .columns)) input-done evaluable
+      where
+        evaluable : Evaluable (store-in bs) (query-read bs) (columns-of (columns (formula (query-read bs))))
+        evaluable =
+            record {
+              layout = reflects (reflects-layout (store-in bs)) (fill-layout (widths-in bs) (records-in bs) (records-filled unmet) .1);
+              accepted =
+                subst⁻¹ (λ ws. Accepted ws (query-read bs)) (fill-widths (widths-in bs) (records-in bs) (records-filled unmet))
+                (reading-accepted (widths-in bs) (query-in bs) (subst (λ i. (j : ℕ) → getD (i .query .constants) j 0 < 2 ^ 32) input-done small) (query-accepted unmet));
+              columns-are = refl;
+            }
+
+    pub judged-done : judged-of bs ≡ judged (input-of bs .query)
+    judged-done = judged-by Done unmet ∙ ap (λ i. judged (i .query)) (sym input-done)
+
+    pub listing-done : (buffer : List ℕ) → let i = input-of bs in let f = evaluated (i .store) (i .query) buffer in listing-of bs buffer ≡ (listing-with (f .0) (judged (i .query) .safe) (i .columns), f .1)
+    listing-done buffer =
+        listing-by-cause buffer (first-cause last) (then-done (input-checks bs) last unmet)
+        ∙ found-beside (first-cause last) (query-read bs) (answers-in bs) buffer
+        ∙ ap evaluated-with (sym input-done)
+      where
+        last : List Check
+        last = row-checks (store-in bs) (query-read bs) (length buffer)
+
+        evaluated-with : Input → Listing × List ℕ
+        evaluated-with i = let f = evaluated (i .store) (i .query) buffer in (listing-with (f .0) (judged (i .query) .safe) (i .columns), f .1)

@@ -1,0 +1,170 @@
+// The calls over the packed input, which the list program and the host make.
+//
+// The packed input has sixteen width bytes, a record count of 2 bytes, the records of 17 bytes each (a relation, four values of 4 bytes), all high byte first,
+// and then the query, which is the rest of it. It is refused 2 where it ends before the query or is over 8,192 bytes; then the query's causes run, then those of
+// the records, which fill a store in any order, and then those of the answer.
+mod part;
+
+use answer::Found;
+use causes::Answer;
+use causes::RELATIONS;
+use query::COLUMNS;
+use query::CONSTANTS;
+use query::Columns;
+use query::NODES;
+use query::Query;
+use tables::PLACES;
+use tables::Store;
+use tables::VALUES;
+use verdict::Verdict;
+ghost use mathlib.Core.Path.{_≡_};
+ghost use Rattle.packed.specs.Packed.{refusal, input-of, judged-of, declined, listing-with, listing-of};
+
+// The most bytes of an input; those before its records; and those of a record.
+pub const LIMIT: usize = 8192;
+
+pub const HEAD: usize = 18;
+
+pub const RECORD: usize = 17;
+
+// What an input holds: the store of its records, and its query with the columns. A refusal comes with nothing else.
+pub struct Input {
+    pub answer: Answer,
+    pub store: Store,
+    pub query: Query,
+    pub columns: Columns,
+}
+
+// What the list of an input's query is: whether the query is safe-range, its columns, and whether infinitely many rows satisfy it, or how many do. A refusal
+// comes with nothing else.
+pub struct Listing {
+    pub answer: Answer,
+    pub safe: bool,
+    pub columns: Columns,
+    pub endless: bool,
+    pub rows: usize,
+}
+
+// What a refused input holds: no relation and no record, no node and no column.
+fn refused(number: u8, place: u8) -> Input
+    ensures { λ i. ⌜ i ≡ refusal number place ⌝ }
+{
+    let store = Store {
+        widths: [0u8; RELATIONS],
+        relations: [0u8; PLACES],
+        values: [0u32; VALUES],
+        count: 0,
+    };
+    let query = Query {
+        constants: [0u32; CONSTANTS],
+        constant_count: 0,
+        nodes: [0u32; NODES],
+        node_count: 0,
+    };
+    let columns = Columns {
+        variables: [0u8; COLUMNS],
+        count: 0,
+    };
+    Input {
+        answer: Answer::Refused(number, place),
+        store,
+        query,
+        columns,
+    }
+}
+
+// What the bytes hold: causes 2, then 1 and 3 to 10 of the query, then 13 and 15 of the records. The query is handed to the reader as the rest of the bytes.
+fn take(bytes: &[u8]) -> Input
+    ensures { λ i. ⌜ i ≡ input-of (now (bytes .entry)) ⌝ }
+{
+    if !part::is_whole(bytes) {
+        return refused(2, 0);
+    }
+    let widths = part::widths(bytes);
+    let n = part::count(bytes);
+    let from = HEAD + RECORD * n;
+    let reading = query::read(&bytes[from..], widths);
+    let answer = reading.answer;
+    if let Answer::Refused(number, place) = answer {
+        return refused(number, place);
+    }
+    let filled = part::fill(bytes, widths, n);
+    let outcome = filled.answer;
+    if let Answer::Refused(number, place) = outcome {
+        return refused(number, place);
+    }
+    let store = filled.store;
+    let query = reading.query;
+    let columns = reading.columns;
+    Input {
+        answer: Answer::Done,
+        store,
+        query,
+        columns,
+    }
+}
+
+// The verdict on the query of an input: causes 2, then 1 and 3 to 10, then 13 and 15.
+pub fn judge(bytes: &[u8]) -> Verdict
+    ensures { λ v. ⌜ v ≡ judged-of (now (bytes .entry)) ⌝ }
+{
+    let input = take(bytes);
+    let answer = input.answer;
+    let query = input.query;
+    let columns = input.columns;
+    if let Answer::Refused(number, place) = answer {
+        return verdict::refused(number, place, query, columns);
+    }
+    verdict::judged(query, columns)
+}
+
+// The reply of a refusal, with the columns of a refused input: none.
+fn refused_listing(number: u8, place: u8) -> Listing
+    ensures { λ l. ⌜ l ≡ declined number place ⌝ }
+{
+    Listing {
+        answer: Answer::Refused(number, place),
+        safe: false,
+        columns: Columns {
+            variables: [0u8; COLUMNS],
+            count: 0,
+        },
+        endless: false,
+        rows: 0,
+    }
+}
+
+// What was found, with the verdict and the columns beside it; or its refusal.
+fn list(found: Found, safe: bool, columns: Columns) -> Listing
+    ensures { λ l. ⌜ l ≡ listing-with found safe columns ⌝ }
+{
+    let answer = found.answer;
+    if let Answer::Refused(number, place) = answer {
+        return refused_listing(number, place);
+    }
+    Listing {
+        answer: Answer::Done,
+        safe,
+        columns,
+        endless: found.endless,
+        rows: found.rows,
+    }
+}
+
+// The list of an input's query: causes 2, then 1 and 3 to 10, then 13 and 15, then 18. The rows stand at the front of the lent list, the rest of which is
+// unaltered; a refusal leaves it whole.
+pub fn find(bytes: &[u8], out: &mut [u32]) -> Listing
+    ensures { λ l. ⌜ (l, now (out .exit)) ≡ listing-of (now (bytes .entry)) (now (out .entry)) ⌝ }
+{
+    let input = take(bytes);
+    let answer = input.answer;
+    if let Answer::Refused(number, place) = answer {
+        return refused_listing(number, place);
+    }
+    let store = input.store;
+    let query = input.query;
+    let columns = input.columns;
+    let verdict = verdict::judged(query, columns);
+    let found = answer::evaluate(store, query, columns, out);
+    list(found, verdict.safe, columns)
+}

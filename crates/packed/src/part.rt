@@ -1,0 +1,79 @@
+// The parts of a packed input: whether they are all there, the widths, the record count, and the records, which fill a store.
+use crate::HEAD;
+use crate::LIMIT;
+use crate::RECORD;
+use causes::RELATIONS;
+use tables::Changed;
+use tables::Record;
+ghost use mathlib.Core.Path.{_≡_};
+ghost use Prim.Native.Nat.{_+_, _*_, _≤_, _<_};
+ghost use lib.ListN.{length};
+ghost use Rattle.calculus.specs.Lists.{tabulate};
+ghost use Rattle.tables.specs.Fill.{beginning, collect-all};
+ghost use Rattle.packed.specs.Packed.{is-whole, widths-in, count-in, record-from, record-at};
+
+// The number of records.
+pub fn count(bytes: &[u8]) -> usize
+    requires { ⌜ 18 ≤ length (now bytes) ⌝ }
+    ensures { λ n. ⌜ (n ≡ count-in (now (bytes .entry))) × (n < 65536) ⌝ }
+{
+    let high = query::wide(bytes[16]);
+    let low = query::wide(bytes[17]);
+    (high * 256 + low) as usize
+}
+
+// Whether the bytes reach to the query, and are at most 8,192. Where not, cause 2 is met.
+pub fn is_whole(bytes: &[u8]) -> bool
+    ensures { λ r. ⌜ r ≡ is-whole (now (bytes .entry)) ⌝ }
+{
+    let n = bytes.len();
+    if LIMIT < n {
+        return false;
+    }
+    if n < HEAD {
+        return false;
+    }
+    HEAD + RECORD * count(bytes) <= n
+}
+
+// The sixteen widths.
+pub fn widths(bytes: &[u8]) -> [u8; RELATIONS]
+    requires { ⌜ 18 ≤ length (now bytes) ⌝ }
+    ensures { λ ws. ⌜ ws ≡ widths-in (now (bytes .entry)) ⌝ }
+{
+    let mut widths = [0u8; RELATIONS];
+    let mut i = 0;
+    while i < RELATIONS {
+        widths[i] = bytes[i];
+        i += 1;
+    }
+    widths
+}
+
+// The record that starts at a byte.
+fn record(bytes: &[u8], at: usize) -> Record
+    requires { ⌜ at + 17 ≤ length (now bytes) ⌝ }
+    ensures { λ r. ⌜ r ≡ record-from (now (bytes .entry)) at ⌝ }
+{
+    Record {
+        relation: bytes[at],
+        first: query::word(bytes, at + 1),
+        second: query::word(bytes, at + 5),
+        third: query::word(bytes, at + 9),
+        fourth: query::word(bytes, at + 13),
+    }
+}
+
+// The store filled from the first n records: cause 1, then 13 and 15 record by record.
+pub fn fill(bytes: &[u8], widths: [u8; RELATIONS], n: usize) -> Changed
+    requires { ⌜ (18 + 17 * n ≤ length (now bytes)) × (n < 65536) ⌝ }
+    ensures { λ c. ⌜ c ≡ collect-all (beginning widths) (tabulate (record-at (now (bytes .entry))) n) ⌝ }
+{
+    let mut f = tables::fill::begin(widths);
+    let mut i = 0;
+    while i < n {
+        f = tables::fill::collect(f, record(bytes, HEAD + RECORD * i));
+        i += 1;
+    }
+    f
+}
