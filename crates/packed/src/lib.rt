@@ -18,6 +18,7 @@ use tables::Store;
 use tables::VALUES;
 use verdict::Verdict;
 ghost use mathlib.Core.Path.{_≡_};
+ghost use lib.ListN.{replicate};
 ghost use Rattle.packed.specs.Packed.{refusal, input-of, judged-of, declined, listing-with, listing-of};
 
 // The most bytes of an input; those before its records; and those of a record.
@@ -26,6 +27,9 @@ pub const LIMIT: usize = 8192;
 pub const HEAD: usize = 18;
 
 pub const RECORD: usize = 17;
+
+// The numbers that a list has room for in the list program and the host.
+pub const ROOM: usize = 4096;
 
 // What an input holds: the store of its records, and its query with the columns. A refusal comes with nothing else.
 pub struct Input {
@@ -43,6 +47,13 @@ pub struct Listing {
     pub columns: Columns,
     pub endless: bool,
     pub rows: usize,
+}
+
+// So many zeros, for `find`.
+pub fn room() -> [u32; ROOM]
+    ensures { λ r. ⌜ r ≡ replicate 4096 0 ⌝ }
+{
+    [0u32; ROOM]
 }
 
 // What a refused input holds: no relation and no record, no node and no column.

@@ -130,7 +130,7 @@ module _ (bs : List ℕ) where
     later-clear : first-cause (query-checks bs ++ fill-checks bs) ≡ Done
     later-clear = first-passed 2 (is-whole bs) (query-checks bs ++ fill-checks bs) c .1
 
-    query-accepted : read-of (widths-in bs) (query-in bs) .answer ≡ Done
+    pub query-accepted : read-of (widths-in bs) (query-in bs) .answer ≡ Done
     query-accepted = ap (λ a. read-reply a (constants-of (query-in bs)) (nodes-of (query-in bs)) .answer) (first-done (query-checks bs) (fill-checks bs) later-clear)
 
     pub input-few : length (columns (formula (query-read bs))) ≤ 4
@@ -166,8 +166,8 @@ module _ (bs : List ℕ) where
             record {
               layout = reflects (reflects-layout (store-in bs)) (fill-layout (widths-in bs) (records-in bs) (records-filled unmet) .1);
               accepted =
-                subst⁻¹ (λ ws. Accepted ws (query-read bs)) (fill-widths (widths-in bs) (records-in bs) (records-filled unmet))
-                (reading-accepted (widths-in bs) (query-in bs) (subst (λ i. (j : ℕ) → getD (i .query .constants) j 0 < 2 ^ 32) input-done small) (query-accepted unmet));
+                  subst⁻¹ (λ ws. Accepted ws (query-read bs)) (fill-widths (widths-in bs) (records-in bs) (records-filled unmet))
+                  (reading-accepted (widths-in bs) (query-in bs) (subst (λ i. (j : ℕ) → getD (i .query .constants) j 0 < 2 ^ 32) input-done small) (query-accepted unmet));
               columns-are = refl;
             }
 

@@ -1,0 +1,95 @@
+-- What the host's entries return and write, as include/palmrummy.h has it. Numbers are written high byte first. Definitions only; the laws are in Entry/Laws.antt.
+use Prim.Native.Nat.{ℕ, _+_, _*_, _/_, _%_, _≤_}
+use mathlib.Core.Bool.{Bool, cond}
+use mathlib.Core.List.{List, [], _∷_, _++_}
+use lib.ListN.{length, drop}
+use lib.Dec.{ltb}
+use Rattle.calculus.specs.Sets.{union-of}
+use Rattle.calculus.specs.Lists.{padded}
+use Rattle.calculus.specs.Rows.{Row, Answers, endless, listed}
+use Rattle.causes.specs.declared.Answer.{Answer}
+use Rattle.causes.specs.declared.Answer.the-variants.{Done, Refused}
+use Rattle.causes.specs.Causes.{first-cause}
+use Rattle.query.specs.declared.Query.{Query}
+use Rattle.query.specs.Reading.{max-nodes, max-constants, max-columns, pool, nodes-in}
+use Rattle.query.specs.Packing.{word-bytes, packed-bytes}
+use Rattle.verdict.specs.declared.Verdict.{Verdict}
+use Rattle.answer.specs.Listing.{numbers}
+use Rattle.packed.specs.Packed.{judged-of, answers-in, list-checks}
+pub mod Laws
+
+-- ---- numbers returned
+
+-- Document 01's number and place of a refusal: 2^31 + 256 × number + place.
+abbrev pub refusal : ℕ → ℕ → ℕ
+refusal n p = 2147483648 + 256 * n + p
+
+-- An endless answer: 2^31.
+abbrev pub code-endless : ℕ
+code-endless = 2147483648
+
+-- ---- the verdict
+
+abbrev pub flag : Bool → ℕ
+flag b = cond b 1 0
+
+abbrev pub short-bytes : ℕ → List ℕ
+short-bytes n = n / 256 ∷ n % 256 ∷ []
+
+abbrev pub long-bytes : ℕ → List ℕ
+long-bytes n = word-bytes (n / 4294967296) ++ word-bytes (n % 4294967296)
+
+-- The form as a packed query.
+abbrev pub form-bytes : Query → List ℕ
+form-bytes q = packed-bytes (pool q) (nodes-in q)
+
+-- Byte 0: 1 where the query is safe-range. Byte 1: the number of columns. 2 to 5: their variables. 6 to 37: the generators of each column, 8 bytes. 38 and 39:
+-- the columns that aren't generated. 40 to 47: the exists nodes whose variable isn't. From 48 on the form, with zeros after it up to 370 bytes.
+abbrev pub verdict-size : ℕ
+verdict-size = 370
+
+abbrev pub verdict-fields : Verdict → List ℕ
+verdict-fields v =
+    flag (v .safe)
+    ∷ v .columns .count
+    ∷ (v .columns .variables ++ (union-of long-bytes (v .generators) ++ (short-bytes (v .ungenerated) ++ long-bytes (v .unranged))))
+
+abbrev pub verdict-bytes : Verdict → List ℕ
+verdict-bytes v = padded verdict-size 0 (verdict-fields v ++ form-bytes (v .form))
+
+-- 0, and the bytes; or a refusal, and the lent output as it was.
+abbrev pub verdict-reply : Answer → Verdict → List ℕ → ℕ × List ℕ
+verdict-reply Done v out = (0, verdict-bytes v)
+verdict-reply (Refused n p) v out = (refusal n p, out)
+
+abbrev pub verdict-entry : List ℕ → List ℕ → ℕ × List ℕ
+verdict-entry bs out = verdict-reply (judged-of bs .answer) (judged-of bs) out
+
+-- ---- the answers
+
+-- The numbers that there is room for in so many bytes: 4 bytes each, and 4,096 of them at most.
+abbrev pub room-in : ℕ → ℕ
+room-in n = cond (ltb 4096 (n / 4)) 4096 (n / 4)
+
+-- The values of rows, 4 bytes each, one row after the other.
+abbrev pub row-bytes : List Row → List ℕ
+row-bytes rows = union-of word-bytes (numbers rows)
+
+-- The number of rows, and the rows at the front of the lent output; or that the answer is endless, or a refusal, and the lent output as it was.
+abbrev pub answer-reply : Answer → Answers → List ℕ → ℕ × List ℕ
+answer-reply Done endless out = (code-endless, out)
+answer-reply Done (listed rows) out = (length rows, row-bytes rows ++ drop (length (row-bytes rows)) out)
+answer-reply (Refused n p) found out = (refusal n p, out)
+
+abbrev pub answer-entry : List ℕ → List ℕ → ℕ × List ℕ
+answer-entry bs out = answer-reply (first-cause (list-checks bs (room-in (length out)))) (answers-in bs) out
+
+-- ---- how the code goes about it
+
+-- A query within the limits.
+abbrev pub Few : Query → Type 0
+Few q = (q .«node_count» ≤ max-nodes) × (q .«constant_count» ≤ max-constants)
+
+-- A verdict within the limits, as one on an accepted query is.
+abbrev pub Writable : Verdict → Type 0
+Writable v = (v .columns .count ≤ max-columns) × Few (v .form)

@@ -1,0 +1,93 @@
+// The host's entries: the verdict and the answers over a packed input, with numbers and byte runs only. include/palmrummy.h is their C side: the layout of
+// every byte written, and the meaning of every number returned.
+mod bytes;
+
+use causes::Answer;
+use packed::ROOM;
+use verdict::Verdict;
+ghost use mathlib.Core.Path.{_≡_};
+ghost use Prim.Native.Nat.{_≤_};
+ghost use Rattle.host.specs.Entry.{refusal, room-in, verdict-bytes, verdict-entry, answer-entry, Writable};
+
+// The bytes of a verdict.
+pub const VERDICT: usize = 370;
+
+// What an endless answer returns.
+const ENDLESS: u32 = 2147483648;
+
+// A refusal as one number.
+fn refused(number: u8, place: u8) -> u32
+    ensures { λ r. ⌜ r ≡ refusal number place ⌝ }
+{
+    ENDLESS + 256 * number as u32 + place as u32
+}
+
+// A verdict's bytes.
+fn written(v: Verdict) -> [u8; VERDICT]
+    requires { ⌜ Writable v ⌝ }
+    ensures { λ r. ⌜ r ≡ verdict-bytes v ⌝ }
+{
+    let columns = v.columns;
+    let variables = columns.variables;
+    let generators = v.generators;
+    let mut reply = [0u8; VERDICT];
+    reply[0] = if v.safe { 1 } else { 0 };
+    reply[1] = columns.count as u8;
+    reply[2] = variables[0];
+    reply[3] = variables[1];
+    reply[4] = variables[2];
+    reply[5] = variables[3];
+    bytes::long(generators[0], &mut reply, 6);
+    bytes::long(generators[1], &mut reply, 14);
+    bytes::long(generators[2], &mut reply, 22);
+    bytes::long(generators[3], &mut reply, 30);
+    reply[38] = (v.ungenerated / 256) as u8;
+    reply[39] = (v.ungenerated % 256) as u8;
+    bytes::long(v.unranged, &mut reply, 40);
+    let form = v.form;
+    bytes::form(form, &mut reply, 48);
+    reply
+}
+
+// The verdict on the query of a packed input: causes 2, then 1 and 3 to 10, then 13 and 15.
+#[no_mangle]
+pub extern "C" fn palmrummy_verdict(input: &[u8], out: &mut [u8; VERDICT]) -> u32
+    ensures { λ r. ⌜ (r, now (out .exit)) ≡ verdict-entry (now (input .entry)) (now (out .entry)) ⌝ }
+{
+    let v = packed::judge(input);
+    let answer = v.answer;
+    if let Answer::Refused(number, place) = answer {
+        return refused(number, place);
+    }
+    *out = written(v);
+    0
+}
+
+// The numbers that there is room for in so many bytes.
+fn room_in(n: usize) -> usize
+    ensures { λ r. ⌜ (r ≡ room-in n) × (r ≤ 4096) ⌝ }
+{
+    let m = n / 4;
+    if ROOM < m { ROOM } else { m }
+}
+
+// The answer to the query of a packed input: causes 2, then 1 and 3 to 10, then 13 and 15, then 18.
+#[no_mangle]
+pub extern "C" fn palmrummy_answer(input: &[u8], out: &mut [u8]) -> u32
+    ensures { λ r. ⌜ (r, now (out .exit)) ≡ answer-entry (now (input .entry)) (now (out .entry)) ⌝ }
+{
+    let mut space = packed::room();
+    let room = room_in(out.len());
+    let listing = packed::find(input, &mut space[..room]);
+    let answer = listing.answer;
+    if let Answer::Refused(number, place) = answer {
+        return refused(number, place);
+    }
+    if listing.endless {
+        return ENDLESS;
+    }
+    let columns = listing.columns;
+    let rows = listing.rows;
+    bytes::words(&space, rows * columns.count, out, 0);
+    rows as u32
+}

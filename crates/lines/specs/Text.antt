@@ -1,0 +1,105 @@
+-- What the list program prints: document 01, "The list program and the host". Bytes are ASCII. Definitions only; the laws are in Text/Laws.antt.
+use Prim.Native.Nat.{ℕ, zero, suc, _+_, _/_, _%_}
+use mathlib.Core.Bool.{Bool, cond}
+use mathlib.Core.List.{List, [], _∷_, _++_}
+use lib.ListN.{length, drop}
+use lib.Dec.{ltb}
+use Rattle.calculus.specs.Sets.{union-of}
+use Rattle.calculus.specs.Generators.{columns, verdict, safe}
+use Rattle.calculus.specs.Rows.{Answers, endless, listed}
+use Rattle.causes.specs.declared.Answer.{Answer}
+use Rattle.causes.specs.declared.Answer.the-variants.{Done, Refused}
+use Rattle.causes.specs.Causes.{first-cause}
+use Rattle.query.specs.declared.Query.{Query}
+use Rattle.query.specs.Reading.{formula}
+use Rattle.answer.specs.Listing.{overlay}
+use Rattle.packed.specs.Packed.{query-read, answers-in, list-checks}
+pub mod Laws
+pub mod Digits
+pub mod Output
+pub mod First
+
+-- Its room is 4,096 numbers.
+abbrev pub room : ℕ
+room = 4096
+
+-- ---- numbers
+
+-- The decimal digits of a number, of k digits at most: without zeros in front, one digit at least.
+abbrev pub digits : ℕ → ℕ → List ℕ
+digits zero n = []
+digits (suc k) n = cond (ltb n 10) [] (digits k (n / 10)) ++ ((48 + n % 10) ∷ [])
+
+-- A number of at most ten digits: every value, number, place and count has no more.
+unfoldable pub decimal : ℕ → List ℕ
+decimal n = digits 10 n
+
+-- ---- lines
+
+-- Numbers, a single space before each.
+abbrev pub spaced : List ℕ → List ℕ
+spaced [] = []
+spaced (n ∷ ns) = 32 ∷ (decimal n ++ spaced ns)
+
+-- A word and numbers, and one line feed.
+abbrev pub line : List ℕ → List ℕ → List ℕ
+line word ns = word ++ (spaced ns ++ (10 ∷ []))
+
+-- The words.
+-- refused
+abbrev pub word-refused : List ℕ
+word-refused = 114 ∷ 101 ∷ 102 ∷ 117 ∷ 115 ∷ 101 ∷ 100 ∷ []
+
+-- safe
+abbrev pub word-safe : List ℕ
+word-safe = 115 ∷ 97 ∷ 102 ∷ 101 ∷ []
+
+-- unsafe
+abbrev pub word-unsafe : List ℕ
+word-unsafe = 117 ∷ 110 ∷ 115 ∷ 97 ∷ 102 ∷ 101 ∷ []
+
+-- columns
+abbrev pub word-columns : List ℕ
+word-columns = 99 ∷ 111 ∷ 108 ∷ 117 ∷ 109 ∷ 110 ∷ 115 ∷ []
+
+-- row
+abbrev pub word-row : List ℕ
+word-row = 114 ∷ 111 ∷ 119 ∷ []
+
+-- rows
+abbrev pub word-rows : List ℕ
+word-rows = 114 ∷ 111 ∷ 119 ∷ 115 ∷ []
+
+-- endless
+abbrev pub word-endless : List ℕ
+word-endless = 101 ∷ 110 ∷ 100 ∷ 108 ∷ 101 ∷ 115 ∷ 115 ∷ []
+
+-- ---- the output
+
+-- A row line of values each, then the number of rows; or `endless` in place of both.
+abbrev pub answer-text : Answers → List ℕ
+answer-text endless = line word-endless []
+answer-text (listed rows) = union-of (line word-row) rows ++ line word-rows (length rows ∷ [])
+
+-- The verdict and the columns.
+abbrev pub head-text : Bool → List ℕ → List ℕ
+head-text safe cols = line (cond safe word-safe word-unsafe) [] ++ line word-columns cols
+
+-- A refusal prints only its own line.
+abbrev pub reply-text : Answer → Query → Answers → List ℕ
+reply-text Done q found = head-text (safe (verdict (formula q))) (columns (formula q)) ++ answer-text found
+reply-text (Refused n p) q found = line word-refused (n ∷ p ∷ [])
+
+-- The whole output for the input bs.
+abbrev pub text-of : List ℕ → List ℕ
+text-of bs = reply-text (first-cause (list-checks bs room)) (query-read bs) (answers-in bs)
+
+-- Its length, and the buffer with it at the front.
+abbrev pub printed : List ℕ → List ℕ → ℕ × List ℕ
+printed bs out = (length (text-of bs), text-of bs ++ drop (length (text-of bs)) out)
+
+-- ---- how the code goes about it
+
+-- The place after a text that is written from a place on, and the list with it.
+abbrev pub wrote : ℕ → List ℕ → List ℕ → ℕ × List ℕ
+wrote at text out = (at + length text, overlay at text out)

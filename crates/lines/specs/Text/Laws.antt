@@ -1,0 +1,91 @@
+-- Laws of the output: texts written one after the other, and how long they are.
+use Prim.Native.Nat.{ℕ, zero, suc, _+_, _*_, _/_, _%_, _≤_}
+use native.Mathlib.Omega.{arith}
+use native.Mathlib.Nat.{zero-add, suc-mul}
+use mathlib.Core.Path.{_≡_, refl, sym, ap, subst, _∙_}
+use mathlib.Core.Bool.{Bool, true, false, cond}
+use mathlib.Core.List.{List, [], _∷_, _++_, append-assoc}
+use lib.ListN.{length, set, drop, length-append}
+use lib.Dec.{ltb}
+use Rattle.calculus.specs.Sets.{here, there, union-of}
+use Rattle.calculus.specs.Rows.{Row}
+use Rattle.answer.specs.Listing.{cut, Width}
+use Rattle.answer.specs.Listing.Laws.{length-overlay, overlay-append, overlay-front}
+use Rattle.answer.specs.Listing.Cut.{length-cut, cut-width}
+use Rattle.lines.specs.Text.{digits, decimal, spaced, line, word-safe, word-unsafe, word-columns, word-row, head-text, text-of, printed, wrote}
+
+-- ---- texts one after the other
+
+pub wrote-none : (at : ℕ) (out : List ℕ) → (at, out) ≡ wrote at [] out
+wrote-none at out = let e : at ≡ at + 0 = omega arith in ap (λ m. (m, out)) e
+
+pub wrote-then : (at m r : ℕ) (t u out o after : List ℕ) → (m, o) ≡ wrote at t out → (r, after) ≡ wrote m u o → (r, after) ≡ wrote at (t ++ u) out
+wrote-then at m r t u out o after e f =
+    let l : at + length (t ++ u) ≡ at + length t + length u = omega (arith, length-append t u) in
+    f ∙ ap (λ p. wrote (p .0) u (p .1)) e ∙ sym (λ i. (l i, overlay-append at t u out i))
+
+-- One byte more.
+pub wrote-byte : (at m : ℕ) (t out o : List ℕ) (b : ℕ) → (m, o) ≡ wrote at t out → (m + 1, set o m b) ≡ wrote at (t ++ (b ∷ [])) out
+wrote-byte at m t out o b e = wrote-then at m (m + 1) t (b ∷ []) out o (set o m b) e refl
+
+-- Where it ends. The list keeps its length; and from its front on, the text stands before the rest of it.
+pub wrote-end : (at r : ℕ) (t out after : List ℕ) → (r, after) ≡ wrote at t out → r ≡ at + length t
+wrote-end at r t out after e = ap (λ p. p .0) e
+
+pub wrote-length : (at r : ℕ) (t out after : List ℕ) → (r, after) ≡ wrote at t out → length after ≡ length out
+wrote-length at r t out after e = ap (λ p. length (p .1)) e ∙ length-overlay at t out
+
+pub wrote-front : (t out : List ℕ) → length t ≤ length out → wrote 0 t out ≡ (length t, t ++ drop (length t) out)
+wrote-front t out h = λ i. (zero-add (length t) i, overlay-front t out h i)
+
+-- ---- how long texts are
+
+pub length-digits : (k n : ℕ) → length (digits k n) ≤ k
+length-digits zero n = omega arith
+length-digits (suc k) n = go (ltb n 10) (length-digits k (n / 10))
+  where
+    go : (b : Bool) → length (digits k (n / 10)) ≤ k → length (cond b [] (digits k (n / 10)) ++ ((48 + n % 10) ∷ [])) ≤ suc k
+    go true l = omega arith
+    go false l = omega (arith, l, length-append (digits k (n / 10)) ((48 + n % 10) ∷ []))
+
+pub length-decimal : (n : ℕ) → length (decimal n) ≤ 10
+unfolding decimal
+length-decimal n = length-digits 10 n
+
+pub length-spaced : (ns : List ℕ) → length (spaced ns) ≤ 11 * length ns
+length-spaced [] = omega arith
+length-spaced (n ∷ ns) = omega (arith, length-append (decimal n) (spaced ns), length-decimal n, length-spaced ns)
+
+pub length-line : (word ns : List ℕ) → length (line word ns) ≤ length word + 11 * length ns + 1
+length-line word ns = omega (arith, length-append word (spaced ns ++ (10 ∷ [])), length-append (spaced ns) (10 ∷ []), length-spaced ns)
+
+pub length-rows : (word : List ℕ) (k : ℕ) (rows : List Row) → Width k rows → length (union-of (line word) rows) ≤ length rows * (length word + 1) + 11 * (length rows * k)
+length-rows word k [] w = omega arith
+length-rows word k (r ∷ rows) w =
+    omega (arith, length-append (line word r) (union-of (line word) rows), length-line word r, w r (here refl), length-rows word k rows (λ u i. w u (there i)), suc-mul (length rows) (length word + 1), suc-mul (length rows) k)
+
+-- Of n rows that stand one after the other in a list.
+pub length-cut-rows : (k n : ℕ) (xs : List ℕ) → n * k ≤ length xs → length (union-of (line word-row) (cut k n xs)) ≤ 4 * n + 11 * (n * k)
+length-cut-rows k n xs h =
+    let l = subst (λ m. length (union-of (line word-row) (cut k n xs)) ≤ m * 4 + 11 * (m * k)) (length-cut k n xs) (length-rows word-row k (cut k n xs) (cut-width k n xs h)) in
+    omega (arith, l)
+
+pub length-verdict : (safe : Bool) → length (line (cond safe word-safe word-unsafe) []) ≤ 7
+length-verdict true = omega arith
+length-verdict false = omega arith
+
+pub length-head : (safe : Bool) (cols : List ℕ) → length (head-text safe cols) ≤ 15 + 11 * length cols
+length-head safe cols =
+    omega (arith, length-append (line (cond safe word-safe word-unsafe) []) (line word-columns cols), length-verdict safe, length-line word-columns cols)
+
+-- Numbers after numbers.
+pub spaced-append : (ns ms : List ℕ) → spaced (ns ++ ms) ≡ spaced ns ++ spaced ms
+spaced-append [] ms = refl
+spaced-append (n ∷ ns) ms = ap (λ l. 32 ∷ (decimal n ++ l)) (spaced-append ns ms) ∙ ap (λ l. 32 ∷ l) (sym (append-assoc (decimal n) (spaced ns) (spaced ms)))
+
+-- ---- the whole output
+
+-- The output's text, written at the front of a list that has room for it.
+pub wrote-printed : (bs t out after : List ℕ) (r : ℕ) → text-of bs ≡ t → length t ≤ length out → (r, after) ≡ wrote 0 t out → ((r, after) ≡ printed bs out) × (r ≤ length out)
+wrote-printed bs t out after r e h w =
+    (w ∙ wrote-front t out h ∙ ap (λ u. (length u, u ++ drop (length u) out)) (sym e), omega (arith, wrote-end 0 r t out after w))
