@@ -7,15 +7,9 @@ mod part;
 
 use answer::Found;
 use causes::Answer;
-use causes::RELATIONS;
-use query::COLUMNS;
-use query::CONSTANTS;
 use query::Columns;
-use query::NODES;
 use query::Query;
-use tables::PLACES;
 use tables::Store;
-use tables::VALUES;
 use verdict::Verdict;
 ghost use mathlib.Core.Path.{_≡_};
 ghost use lib.ListN.{replicate};
@@ -60,25 +54,12 @@ pub fn room() -> [u32; ROOM]
 fn refused(number: u8, place: u8) -> Input
     ensures { λ i. ⌜ i ≡ refusal number place ⌝ }
 {
-    let store = Store {
-        widths: [0u8; RELATIONS],
-        relations: [0u8; PLACES],
-        values: [0u32; VALUES],
-        count: 0,
-    };
-    let query = Query {
-        constants: [0u32; CONSTANTS],
-        constant_count: 0,
-        nodes: [0u32; NODES],
-        node_count: 0,
-    };
-    let columns = Columns {
-        variables: [0u8; COLUMNS],
-        count: 0,
-    };
+    let reading = query::refused(number, place);
+    let query = reading.query;
+    let columns = reading.columns;
     Input {
         answer: Answer::Refused(number, place),
-        store,
+        store: tables::fill::none(),
         query,
         columns,
     }
@@ -133,13 +114,12 @@ pub fn judge(bytes: &[u8]) -> Verdict
 fn refused_listing(number: u8, place: u8) -> Listing
     ensures { λ l. ⌜ l ≡ declined number place ⌝ }
 {
+    let reading = query::refused(number, place);
+    let columns = reading.columns;
     Listing {
         answer: Answer::Refused(number, place),
         safe: false,
-        columns: Columns {
-            variables: [0u8; COLUMNS],
-            count: 0,
-        },
+        columns,
         endless: false,
         rows: 0,
     }

@@ -46,8 +46,8 @@ pub struct Reading {
     pub columns: Columns,
 }
 
-// The reply of a refusal.
-fn refused(number: u8, place: u8) -> Reading
+// The reply of a refusal. For calls that are refused before they read a query, too.
+pub fn refused(number: u8, place: u8) -> Reading
     ensures { λ r. ⌜ r ≡ refusal number place ⌝ }
 {
     let query = Query {

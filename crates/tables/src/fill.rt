@@ -11,8 +11,8 @@ ghost use mathlib.Core.Path.{_≡_};
 ghost use Rattle.tables.specs.Fill.{beginning, collected, fill-reply};
 ghost use Rattle.tables.specs.Store.{no-store};
 
-// What a refused filling hands back: no relation, and no record.
-fn none() -> Store
+// What a refused filling hands back: no relation, and no record. For other calls that are refused before they have a store, too.
+pub fn none() -> Store
     ensures { λ s. ⌜ s ≡ no-store ⌝ }
 {
     Store {

@@ -1,0 +1,74 @@
+// The list program over the host's entries: reads a packed input, and prints the lines that document 01's list program
+// prints for it.
+//
+// Usage: menu_line [FILE]. Without a file it reads standard input. The exit status is 0 where the lines are printed,
+// also that of a refusal; 1 where a file can't be read or the lines can't be written; 2 where the usage is another.
+#include <errno.h>
+#include <inttypes.h>
+#include <stdio.h>
+#include <stdlib.h>
+#include <string.h>
+
+#include "palmrummy.h"
+
+// One byte more than the longest input: the engine tells a longer one by its length.
+static uint8_t input[PALMRUMMY_INPUT_MOST + 1];
+static uint8_t verdict[PALMRUMMY_VERDICT];
+static uint8_t answer[PALMRUMMY_ANSWER_MOST];
+
+static int failed(const char *what) {
+    fprintf(stderr, "menu_line: %s: %s\n", what, strerror(errno));
+    return EXIT_FAILURE;
+}
+
+static void print_refusal(uint32_t reply) {
+    printf("refused %" PRIu32 " %" PRIu32 "\n", palmrummy_refusal_number(reply), palmrummy_refusal_place(reply));
+}
+
+static void print_rows(uint32_t rows, size_t columns) {
+    for (size_t r = 0; r < rows; r++) {
+        fputs("row", stdout);
+        for (size_t c = 0; c < columns; c++) printf(" %" PRIu32, palmrummy_value(answer, r * columns + c));
+        putchar('\n');
+    }
+    printf("rows %" PRIu32 "\n", rows);
+}
+
+// The lines for an input of so many bytes. Nothing is printed before both replies are there: a refusal is one line.
+static void print_lines(size_t length) {
+    uint32_t judged = palmrummy_verdict(input, length, verdict);
+    if (palmrummy_is_refused(judged)) {
+        print_refusal(judged);
+        return;
+    }
+    uint32_t found = palmrummy_answer(input, length, answer, sizeof answer);
+    if (palmrummy_is_refused(found)) {
+        print_refusal(found);
+        return;
+    }
+    size_t columns = verdict[PALMRUMMY_VERDICT_COLUMNS];
+    puts(verdict[PALMRUMMY_VERDICT_SAFE] ? "safe" : "unsafe");
+    fputs("columns", stdout);
+    for (size_t c = 0; c < columns; c++) printf(" %d", verdict[PALMRUMMY_VERDICT_VARIABLES + c]);
+    putchar('\n');
+    if (palmrummy_is_endless(found))
+        puts("endless");
+    else
+        print_rows(found, columns);
+}
+
+int main(int count, char **words) {
+    if (count > 2) {
+        fputs("usage: menu_line [FILE]\n", stderr);
+        return 2;
+    }
+    const char *name = count == 2 ? words[1] : "standard input";
+    FILE *file = count == 2 ? fopen(name, "rb") : stdin;
+    if (file == NULL) return failed(name);
+    size_t length = fread(input, 1, sizeof input, file);
+    if (ferror(file)) return failed(name);
+    if (file != stdin) fclose(file);
+    print_lines(length);
+    if (fflush(stdout) != 0 || ferror(stdout)) return failed("standard output");
+    return EXIT_SUCCESS;
+}

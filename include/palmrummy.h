@@ -1,0 +1,184 @@
+// Palmrummy for C and C++: the verdict on a query, and its answers, over one packed input.
+//
+// Both entries take numbers and byte runs only. All numbers in the bytes are unsigned, high byte first. "Document 01"
+// is the scope paper; node, form, generator, safe-range and endless are its words.
+//
+// Link with target/staticlib/libhost.a, which `rt staticlib host` makes.
+#ifndef PALMRUMMY_H
+#define PALMRUMMY_H
+
+#include <stdbool.h>
+#include <stddef.h>
+#include <stdint.h>
+
+#ifdef __cplusplus
+extern "C" {
+#endif
+
+// ---- The packed input ----------------------------------------------------------------------------------------------
+//
+//   offset        bytes     what
+//   0             16        the widths of relations 0 to 15: how many values a record of it has, 1 to 4; 0 where absent
+//   16            2         the number of records, n
+//   18            17 × n    the records: a relation of 1 byte, four values of 4 bytes, those past the width zero
+//   18 + 17 × n   the rest  the query
+//
+// Records come in any order, and repeats are kept once. At most 256 different ones are held, and an input is at most
+// 8,192 bytes long.
+//
+// The query is a header of 2 bytes, then constants of 4 bytes, then nodes of 4 bytes. The header's bits, from the
+// highest: version 4 (value 1), node count 7 (1 to 64), constant count 5 (0 to 16). A node's bits, from the highest,
+// with zeros in all that are left:
+//
+//   kind (3 bits)   fields (bits)
+//   0 truth         value 1: 1 is true
+//   1 record        relation 4, term count 3, four terms of 5, those past the count zero
+//   2 equality      variable 4, term 5
+//   3 not           child 6
+//   4 and, 5 or     left 6, right 6
+//   6 exists        variable 4, child 6
+//
+// A term is 1 bit (0 variable, 1 constant), and 4 bits of the variable's number or the place among the constants. The
+// last node is the root. A child's number is below its parent's, and each node but the last is a child exactly once.
+#define PALMRUMMY_INPUT_MOST 8192   // bytes of an input
+#define PALMRUMMY_RELATIONS 16      // width bytes, at the start
+#define PALMRUMMY_INPUT_COUNT 16    // offset of the number of records
+#define PALMRUMMY_INPUT_RECORDS 18  // offset of the first record
+#define PALMRUMMY_RECORD 17         // bytes of a record
+#define PALMRUMMY_RECORDS_MOST 256  // different records
+#define PALMRUMMY_WIDTH_MOST 4
+#define PALMRUMMY_NODES_MOST 64
+#define PALMRUMMY_CONSTANTS_MOST 16
+#define PALMRUMMY_COLUMNS_MOST 4
+
+// ---- Numbers returned ----------------------------------------------------------------------------------------------
+//
+//   palmrummy_verdict   0 where the verdict is written
+//   palmrummy_answer    the number of rows, where they are written: 0 to 4,096
+//                       2^31 where infinitely many rows satisfy the query (endless)
+//   both                2^31 + 256 × number + place for a refusal
+#define PALMRUMMY_ENDLESS UINT32_C(0x80000000)
+
+static inline bool palmrummy_is_endless(uint32_t reply) { return reply == PALMRUMMY_ENDLESS; }
+
+static inline bool palmrummy_is_refused(uint32_t reply) { return reply > PALMRUMMY_ENDLESS; }
+
+// The number of a refusal's cause, and its place: a node of the query as read, or 0. For refusals only.
+static inline uint32_t palmrummy_refusal_number(uint32_t reply) { return (reply - PALMRUMMY_ENDLESS) / 256; }
+
+static inline uint32_t palmrummy_refusal_place(uint32_t reply) { return reply % 256; }
+
+// The causes that the entries can meet, with the numbers of document 01's table, in the order in which they are judged,
+// each over the whole input. 13 and 15 are judged together, record by record. The other causes of that table (11, 12,
+// 14, 16, 17, 19) belong to calls that are not here. A node as place is the lowest one at fault.
+//
+//   number  place   cause
+//   2       0       the input ends before its query, or is over 8,192 bytes
+//   1       0       a width above 4
+//   3       0       the query is under 2 bytes, or its version is not 1
+//   4       0       node count 0 or over 64, or over 16 constants
+//   5       0       the query's length is not 2 + 4 × constants + 4 × nodes
+//   6       a node  kind 7, or a bit set that is to be zero, or a term past the term count that is not zero
+//   7       a node  a child not below it; or not the last node and not a child exactly once
+//   8       a node  a term's place among the constants is at or past their count
+//   9       a node  a record whose relation is absent, or whose term count is not the relation's width
+//   10      0       over 4 free variables
+//   13      0       a record's relation is absent or over 15, or a value past its width is not zero
+//   15      0       over 256 different records
+//   18      0       rows × columns over the room of the lent output: from palmrummy_answer only
+#define PALMRUMMY_CAUSE_INPUT 2
+#define PALMRUMMY_CAUSE_WIDTH 1
+#define PALMRUMMY_CAUSE_VERSION 3
+#define PALMRUMMY_CAUSE_COUNTS 4
+#define PALMRUMMY_CAUSE_LENGTH 5
+#define PALMRUMMY_CAUSE_BITS 6
+#define PALMRUMMY_CAUSE_CHILD 7
+#define PALMRUMMY_CAUSE_CONSTANT 8
+#define PALMRUMMY_CAUSE_RELATION 9
+#define PALMRUMMY_CAUSE_COLUMNS 10
+#define PALMRUMMY_CAUSE_RECORD 13
+#define PALMRUMMY_CAUSE_RECORDS 15
+#define PALMRUMMY_CAUSE_ROOM 18
+
+// Whether a cause's place is a node.
+static inline bool palmrummy_has_node(uint32_t number) {
+    return PALMRUMMY_CAUSE_BITS <= number && number <= PALMRUMMY_CAUSE_RELATION;
+}
+
+// ---- The verdict ---------------------------------------------------------------------------------------------------
+//
+//   offset  bytes   what
+//   0       1       1 where the query is safe-range, else 0
+//   1       1       the number of columns, 0 to 4
+//   2       4       the columns: the free variables of the query as read, ascending; zeros past their number
+//   6       4 × 8   the generators of each column: a bit for each node of the form, node 0 the highest; 0 where it has
+//                   none, and past the number of columns
+//   38      2       the columns that aren't generated in the form: a bit for each variable, variable 0 the highest
+//   40      8       the exists nodes of the form whose variable isn't generated in their child: bits as in generators
+//   48      322     the form, packed as a query with the same constants; zeros after it
+//
+// A query is safe-range where the numbers at 38 and 40 are both 0. A column can be generated and have no generators:
+// false generates every variable, from no node. The number at 38 tells.
+#define PALMRUMMY_VERDICT 370
+#define PALMRUMMY_VERDICT_SAFE 0
+#define PALMRUMMY_VERDICT_COLUMNS 1
+#define PALMRUMMY_VERDICT_VARIABLES 2
+#define PALMRUMMY_VERDICT_GENERATORS 6
+#define PALMRUMMY_VERDICT_UNGENERATED 38
+#define PALMRUMMY_VERDICT_UNRANGED 40
+#define PALMRUMMY_VERDICT_FORM 48
+
+// How many bytes a packed query has, told from its header. For the form of a verdict, as it is always right.
+static inline size_t palmrummy_query_length(const uint8_t *query) {
+    size_t header = (size_t)query[0] << 8 | query[1];
+    return 2 + 4 * (header % 32) + 4 * (header / 32 % 128);
+}
+
+// ---- The answers ---------------------------------------------------------------------------------------------------
+//
+// The rows, one after the other, from the front of the lent output: for each column of the verdict the value of its
+// variable, 4 bytes. Rows ascend strictly, by the first column, then by the second, and so on. Without columns a row
+// has no bytes: the reply is 1 where the query is satisfied and 0 where not.
+//
+// The room is the output's length / 4 numbers, rounded down, and at most 4,096, as in the list program. So 16,384 bytes
+// take every answer that isn't refused for a room of 4,096: what is refused 18 with them is refused 18 with any output.
+// An endless answer and one without columns need no room.
+#define PALMRUMMY_ROOM_MOST 4096     // numbers of an answer
+#define PALMRUMMY_ANSWER_MOST 16384  // bytes of an answer
+
+// The i-th number of an answer: with k columns, row r has the numbers k × r to k × r + k - 1.
+static inline uint32_t palmrummy_value(const uint8_t *out, size_t i) {
+    const uint8_t *b = out + 4 * i;
+    return (uint32_t)b[0] << 24 | (uint32_t)b[1] << 16 | (uint32_t)b[2] << 8 | b[3];
+}
+
+// ---- The entries ---------------------------------------------------------------------------------------------------
+//
+// What is written and what is left:
+// - The input is only read, and nothing past its length.
+// - A refusal leaves every byte of the lent output as it was. So does an endless answer.
+// - A verdict writes all 370 bytes.
+// - An answer writes rows × columns × 4 bytes; the rest of the lent output is as it was.
+// - The reply and the bytes written depend on the input and the output's length, never on what was in the output.
+//
+// What the caller sees to:
+// - No pointer is null, also where its length is 0. Any alignment will do.
+// - The output is writable, overlaps nothing of the input, and nobody else reads or writes it during the call. Nobody
+//   writes the input during the call.
+// - There is stack for the call: docs/ARCHITECTURE.md says how much.
+//
+// There is no other state: no global variables, no heap, no files. Calls may be made at once from any number of
+// threads, also over the same input, each with an output of its own. Every call returns, whatever the bytes are; how
+// long an answer takes depends on the query.
+
+// The verdict on the query of a packed input.
+uint32_t palmrummy_verdict(const uint8_t *input, size_t length, uint8_t out[PALMRUMMY_VERDICT]);
+
+// The rows that satisfy the query of a packed input over its records, into the `room` bytes at `out`.
+uint32_t palmrummy_answer(const uint8_t *input, size_t length, uint8_t *out, size_t room);
+
+#ifdef __cplusplus
+}
+#endif
+
+#endif
