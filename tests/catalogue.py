@@ -10,12 +10,14 @@ Exit status 1 where anything differs.
 """
 import argparse
 import math
+import os
 import pathlib
 import random
 import re
 import struct
 import subprocess
 import sys
+import time
 
 HERE = pathlib.Path(__file__).resolve().parent.parent
 EXAMPLES = HERE / "examples"
@@ -28,6 +30,7 @@ import trials
 import verdicts
 
 FAILED = []
+MUCH = 100000  # bytes: more than the program ever writes
 
 
 def fail(name, text):
@@ -461,6 +464,48 @@ def check_program(program, name, data, wanted):
         fail(name, f"the program writes {done.stdout[:200]!r}, and not {wanted[:200]!r}{what}")
 
 
+def over_streams(program, parts=(), closed=None, **streams):
+    """What the program writes on both outputs over streams; the input comes part by part, and closed is a stream that it is started without."""
+    started = subprocess.Popen([program], **{"stdin": subprocess.PIPE, "stdout": subprocess.PIPE, "stderr": subprocess.PIPE, **streams},
+                               preexec_fn=None if closed is None else lambda: os.close(closed))
+    for part in parts:
+        started.stdin.write(part)
+        started.stdin.flush()
+        time.sleep(0.02)
+    if started.stdin:
+        started.stdin.close()
+    out = started.stdout.read(MUCH) if started.stdout else b""
+    err = started.stderr.read(MUCH) if len(out) < MUCH else b"far too much is written"
+    started.kill()
+    started.wait()
+    return out, err
+
+
+def check_streams(program, data, wanted):
+    """Inputs that come in parts or never end are read as any other; where a read or the writing fails, nothing is printed but a line on standard error."""
+    told = 0
+    for name, reply in (("an input in parts", over_streams(program, [data[i:i + 13] for i in range(0, len(data), 13)])),
+                        ("an input byte by byte", over_streams(program, [bytes([b]) for b in data]))):
+        told += 1
+        if reply != (wanted, b""):
+            fail(name, f"the program writes {reply!r}, and not {wanted!r}")
+    with open("/dev/zero", "rb") as zeros, open("/dev/full", "wb") as full:
+        reply = over_streams(program, stdin=zeros)
+        told += 1
+        if reply != (b"refused 2 0\n", b""):
+            fail("an input without end", f"the program writes {reply!r}")
+        directory = os.open("/", os.O_RDONLY)
+        for name, stream, (out, err) in (("no standard input", b"standard input", over_streams(program, closed=0)),
+                                         ("a directory for standard input", b"standard input", over_streams(program, stdin=directory)),
+                                         ("no standard output", b"standard output", over_streams(program, [data], closed=1)),
+                                         ("a full device for standard output", b"standard output", over_streams(program, [data], stdout=full))):
+            told += 1
+            if out or not re.fullmatch(stream + rb": [^\n]+\n", err):
+                fail(name, f"the program writes {out!r}, and on standard error {err!r}")
+        os.close(directory)
+    return told
+
+
 def check_input(program, name, data, expect=None):
     """An input through lines.py, menu.py and the program: what the output is, or None where lines.py's tables are too large for it."""
     try:
@@ -521,7 +566,8 @@ def main():
     edges = [*worked_cases(), *limit_cases()]
     for name, data, wanted in edges:
         check_input(program, name, data, wanted)
-    ran = f"{len(stock)} examples, {texts} menu texts, {len(edges)} edges"
+    streams = check_streams(program, stock[0], FIRST_OUTPUT) if program and stock else 0
+    ran = f"{len(stock)} examples, {texts} menu texts, {len(edges)} edges, {streams} ways to be read and written"
     if given.random:
         for length in range(len(stock[0])):  # 18 bytes and three records end at 69; then come the query's header and its rest
             cause = 2 if length < 69 else 3 if length < 71 else 5
