@@ -45,7 +45,8 @@ spaced (n ∷ ns) = 32 ∷ (decimal n ++ spaced ns)
 abbrev pub line : List ℕ → List ℕ → List ℕ
 line word ns = word ++ (spaced ns ++ (10 ∷ []))
 
--- The words.
+-- ---- the words, in ASCII
+
 -- refused
 abbrev pub word-refused : List ℕ
 word-refused = 114 ∷ 101 ∷ 102 ∷ 117 ∷ 115 ∷ 101 ∷ 100 ∷ []

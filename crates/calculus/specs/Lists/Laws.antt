@@ -144,6 +144,10 @@ module _ {A : Type 0} where
   in-take d (x ∷ xs) (suc n) zero h l = here refl
   in-take d (x ∷ xs) (suc n) (suc c) h l = there (in-take d xs n c (omega arith) (omega arith))
 
+  pub from-take : {x : A} (n : ℕ) (xs : List A) → In x (take n xs) → In x xs
+  from-take (suc n) (y ∷ xs) (here e) = here e
+  from-take (suc n) (y ∷ xs) (there i) = there (from-take n xs i)
+
 -- ---- a list that is filled from the front, and one that is known by its elements
 
 module _ {A : Type 0} where

@@ -203,7 +203,7 @@ module _ (ws bs : List ℕ) where
 
 -- ---- every accepted query
 
-word-fits : (bs : List ℕ) → ((i : ℕ) → getD bs i 0 < 256) → (i : ℕ) → word-at bs i < 2 ^ 32
+pub word-fits : (bs : List ℕ) → ((i : ℕ) → getD bs i 0 < 256) → (i : ℕ) → word-at bs i < 2 ^ 32
 word-fits bs b i = omega (arith, b i, b (i + 1), b (i + 2), b (i + 3))
 
 pub constant-fits : (bs : List ℕ) → ((i : ℕ) → getD bs i 0 < 256) → (v : ℕ) → In v (constants-of bs) → v < 2 ^ 32

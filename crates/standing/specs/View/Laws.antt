@@ -10,7 +10,7 @@ use lib.Seq.{length-take-le, drop-cons, drop-drop, drop-append-le, append-snoc, 
 use Rattle.calculus.specs.Sets.{In, here, there, union-of}
 use Rattle.calculus.specs.Sets.Laws.{in-append, from-map, union-append}
 use Rattle.calculus.specs.Lists.{tabulate, padded}
-use Rattle.calculus.specs.Lists.Laws.{length-tabulate, getD-tabulate, length-padded, from-tabulate, tabulate-same, drop-replicate}
+use Rattle.calculus.specs.Lists.Laws.{length-tabulate, getD-tabulate, length-padded, from-tabulate, from-take, tabulate-same, drop-replicate}
 use Rattle.calculus.specs.Rows.{Row}
 use Rattle.answer.specs.Listing.{numbers, Width}
 use Rattle.answer.specs.Listing.Rows.{numbers-width}
@@ -43,14 +43,10 @@ four-taken vs a h =
 pub line-taken : (vs : List ℕ) (i : ℕ) → 4 * i + 4 ≤ length vs → take 4 (drop (4 * i) vs) ≡ line-at vs i
 line-taken vs i h = four-taken vs (4 * i) h
 
-from-first : {w : Row} (n : ℕ) (rows : List Row) → In w (take n rows) → In w rows
-from-first (suc n) (r ∷ rows) (here e) = here e
-from-first (suc n) (r ∷ rows) (there i) = there (from-first n rows i)
-
 -- Every line has four values, also of the first n.
 pub width-first : (n : ℕ) (vs : List ℕ) → Width 4 (take n (lines vs))
 unfolding lines
-width-first n vs w i = ap length (from-tabulate (line-at vs) 512 (from-first n (lines vs) i) .2)
+width-first n vs w i = ap length (from-tabulate (line-at vs) 512 (from-take n (lines vs) i) .2)
 
 -- Cut to k values, each has k of them.
 pub width-rows : (k n : ℕ) (vs : List ℕ) → k ≤ 4 → Width k (map (take k) (take n (lines vs)))
