@@ -3,15 +3,15 @@
 use Prim.Native.Nat.{ℕ, _+_, _*_, _≤_, _<_}
 use native.Mathlib.Omega.{arith}
 use native.Mathlib.Numerals.{add-one}
-use native.Mathlib.Nat.{suc-mul, mul-le-mul, mul-le-mul-right}
-use mathlib.Core.Path.{_≡_, refl, sym, ap, subst, _∙_}
+use native.Mathlib.Nat.{mul-le-mul}
+use mathlib.Core.Path.{_≡_, refl, sym, ap, _∙_}
 use mathlib.Core.List.{List, [], _∷_, _++_, map, map-append, append-nil}
 use lib.ListN.{length, getD, take, drop, set, length-append, length-drop, length-map}
 use lib.Seq.{getD-drop, take-suc, take-take, drop-drop, take-at, drop-at, length-take-le, paste, paste-suc}
 use Rattle.calculus.specs.Sets.Laws.{union-append}
 use Rattle.calculus.specs.Rows.{Row}
 use Rattle.answer.specs.Listing.{numbers, cut}
-use Rattle.answer.specs.Listing.Cut.{length-cut, cut-width, cut-next}
+use Rattle.answer.specs.Listing.Cut.{length-cut, cut-width, cut-next, position-within}
 use Rattle.standing.specs.View.{lines, stored}
 use Rattle.answer.specs.Listing.Rows.{numbers-width}
 use Rattle.standing.specs.View.Laws.{length-lines, getD-lines, line-taken, width-rows, stored-next}
@@ -28,22 +28,7 @@ carried-next from before out start at c h l e =
 
 -- ---- rows of k numbers
 
--- Row i of n ends where row i + 1 starts, before the end of them all.
-row-start : (k i : ℕ) → (i + 1) * k ≡ i * k + k
-row-start k i = ap (λ m. m * k) (add-one i) ∙ suc-mul i k
-
-row-end : (k i n : ℕ) → i < n → i * k + k ≤ n * k
-row-end k i n h = subst (λ m. m ≤ n * k) (suc-mul i k) (mul-le-mul-right k h)
-
--- The running position moves on by a row,
-pub position-next : (k i at : ℕ) → at ≡ i * k → at + k ≡ (i + 1) * k
-position-next k i at e = ap (λ m. m + k) e ∙ sym (row-start k i)
-
--- a row from there on ends within what holds all of them,
-pub position-within : (k i n at m : ℕ) → i < n → at ≡ i * k → n * k ≤ m → at + k ≤ m
-position-within k i n at m h e l = omega (arith, row-end k i n h)
-
--- and within 2,048 numbers.
+-- A row from a running position on ends within 2,048 numbers.
 pub position-small : (k i n at : ℕ) → k ≤ 4 → n ≤ 512 → i < n → at ≡ i * k → at + k ≤ 2048
 position-small k i n at few h l e = position-within k i n at 2048 l e (mul-le-mul h few)
 

@@ -161,6 +161,9 @@ module _ {A : Type 0} where
   pub tabulate-of : (f : ℕ → A) (l : List A) (n : ℕ) (d : A) → length l ≡ n → ((i : ℕ) → i < n → getD l i d ≡ f i) → l ≡ tabulate f n
   tabulate-of f l n d e h = ext-getD d l (tabulate f n) (e ∙ sym (length-tabulate f n)) (λ i b. let m : i < n = omega arith in h i m ∙ sym (getD-tabulate f n i d m))
 
+  pub four-of : (xs : List A) (d : A) → length xs ≡ 4 → xs ≡ getD xs 0 d ∷ getD xs 1 d ∷ getD xs 2 d ∷ getD xs 3 d ∷ []
+  four-of xs d h = tabulate-of (λ i. getD xs i d) xs 4 d h (λ i l. refl)
+
 -- ---- an element that passes the test, among the first n or the others
 
 module _ {A : Type 0} (p : A → Bool) (d : A) where

@@ -11,7 +11,8 @@ use Rattle.calculus.specs.Lists.{padded}
 use Rattle.verdict.specs.declared.Verdict.{Verdict}
 use Rattle.answer.specs.Listing.{overlay}
 use Rattle.host.specs.Entry.{flag, short-bytes, long-bytes, form-bytes, verdict-fields, verdict-size}
-use Rattle.host.specs.Entry.Laws.{front-run, front-padded, four-of, length-form}
+use Rattle.calculus.specs.Lists.Laws.{four-of}
+use Rattle.host.specs.Entry.Laws.{front-run, front-padded, length-form}
 use Rattle.host.proofs.written.Statement.{statement}
 use Rattle.host.proofs.written.Tie as tie
 
@@ -54,7 +55,7 @@ module _ (v : Verdict) where
   -- They are the fields, where there are four variables and four sets of generators.
   all-fields : length (v .columns .variables) ≡ 4 → length (v .generators) ≡ 4 → until-48 ≡ verdict-fields v
   all-fields lv lg =
-      λ i. flag (v .safe) ∷ v .columns .count ∷ (sym (four-of (v .columns .variables) lv) i ++ (union-of long-bytes (sym (four-of (v .generators) lg) i) ++ (short-bytes (v .ungenerated) ++ long-bytes (v .unranged))))
+      λ i. flag (v .safe) ∷ v .columns .count ∷ (sym (four-of (v .columns .variables) 0 lv) i ++ (union-of long-bytes (sym (four-of (v .generators) 0 lg) i) ++ (short-bytes (v .ungenerated) ++ long-bytes (v .unranged))))
 
 -- ---- what is known at a place
 

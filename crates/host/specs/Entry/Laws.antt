@@ -11,7 +11,7 @@ use lib.Seq.{take-suc, length-take-le, take-at}
 use Rattle.calculus.specs.Sets.{union-of}
 use Rattle.calculus.specs.Sets.Laws.{union-append}
 use Rattle.calculus.specs.Lists.{padded}
-use Rattle.calculus.specs.Lists.Laws.{drop-replicate, tabulate-of}
+use Rattle.calculus.specs.Lists.Laws.{drop-replicate}
 use Rattle.calculus.specs.Reflects.{Reflects, holds, fails, reflects-ltb}
 use Rattle.causes.specs.declared.Answer.{Answer}
 use Rattle.causes.specs.declared.Answer.the-variants.{Done, Refused}
@@ -59,9 +59,6 @@ pub length-words : (list : List ℕ) (n : ℕ) → n ≤ length list → length 
 length-words list n h = length-bytes (take n list) ∙ ap (λ k. 4 * k) (length-take-le n list h)
 
 -- ---- the verdict's parts
-
-pub four-of : (xs : List ℕ) → length xs ≡ 4 → xs ≡ getD xs 0 0 ∷ getD xs 1 0 ∷ getD xs 2 0 ∷ getD xs 3 0 ∷ []
-four-of xs h = tabulate-of (λ i. getD xs i 0) xs 4 0 h (λ i l. refl)
 
 taken-at-most : (n : ℕ) (xs : List ℕ) → length (take n xs) ≤ n
 taken-at-most n xs = rw (length-take n xs) (min-le-left n (length xs))

@@ -2,23 +2,15 @@
 use Prim.Native.Nat.{ℕ}
 use native.Mathlib.Omega.{arith}
 use borrow.Author.Needs.{needs}
-use mathlib.Core.Path.{_≡_, refl, ap, _∙_}
+use mathlib.Core.Path.{_≡_, sym, ap, _∙_}
 use mathlib.Core.Bool.{cond}
-use mathlib.Core.List.{List, [], _∷_}
-use lib.ListN.{length, getD, take}
+use mathlib.Core.List.{List, []}
+use lib.ListN.{length, take}
+use Rattle.calculus.specs.Lists.Laws.{four-of}
 use Rattle.lines.specs.Text.{line, word-safe, word-unsafe, word-columns, wrote}
 use Rattle.lines.specs.Text.Laws.{wrote-then, wrote-end, wrote-length, length-verdict}
 use Rattle.lines.proofs.head.Statement.{statement}
 use Rattle.lines.proofs.head.Tie as tie
-
--- The numbers of a list of four, one by one.
-all-four : (xs : List ℕ) → length xs ≡ 4 → getD xs 0 0 ∷ getD xs 1 0 ∷ getD xs 2 0 ∷ getD xs 3 0 ∷ [] ≡ xs
-all-four [] e = absurd (omega (arith, e))
-all-four (a ∷ []) e = absurd (omega (arith, e))
-all-four (a ∷ b ∷ []) e = absurd (omega (arith, e))
-all-four (a ∷ b ∷ c ∷ []) e = absurd (omega (arith, e))
-all-four (a ∷ b ∷ c ∷ d ∷ []) e = refl
-all-four (a ∷ b ∷ c ∷ d ∷ x ∷ xs) e = absurd (omega (arith, e))
 
 places : (s : tie.Start) → length (s .args .columns .variables) ≡ 4
 places s = search needs
@@ -84,7 +76,7 @@ returns c =
     let d = c .before .before in let v = d .before .before .before .before .before .before .before in let a = start v .args in
     wrote-then 0 (v .verdict .result) (d .line .result) (judged v) (line word-columns (take (a .columns .count) (a .columns .variables))) (a .out .now) (v .verdict .last .1 .0) (d .line .last .1 .1 .1 .1 .0)
     (v .verdict .ensures)
-    (d .line .ensures ∙ ap (λ xs. wrote (v .verdict .result) (line word-columns (take (a .columns .count) xs)) (v .verdict .last .1 .0)) (all-four (a .columns .variables) (places (start v))))
+    (d .line .ensures ∙ ap (λ xs. wrote (v .verdict .result) (line word-columns (take (a .columns .count) xs)) (v .verdict .last .1 .0)) (sym (four-of (a .columns .variables) 0 (places (start v)))))
 
 pub head-spec : {M : Type 1} → statement M
 head-spec =

@@ -1,16 +1,16 @@
 -- `rows` meets its contract. The loop's invariant: the lines of the first i rows are written, from `at` up to `end`, and the next row stands at `from`.
-use Prim.Native.Nat.{ℕ, _+_, _*_, _-_, _≤_, _<_}
+use Prim.Native.Nat.{ℕ, _+_, _*_, _-_, _≤_}
 use native.Mathlib.Omega.{arith}
-use native.Mathlib.Nat.{zero-mul, suc-mul, mul-le-mul-right}
+use native.Mathlib.Nat.{zero-mul}
 use native.Mathlib.Numerals.{add-one}
 use borrow.Author.Needs.{needs}
-use mathlib.Core.Path.{_≡_, sym, ap, subst, _∙_}
+use mathlib.Core.Path.{_≡_, sym, ap, _∙_}
 use mathlib.Core.List.{List, [], _∷_, _++_, append-nil}
 use lib.ListN.{length, take, drop}
 use Rattle.calculus.specs.Sets.{union-of}
 use Rattle.calculus.specs.Sets.Laws.{union-append}
 use Rattle.answer.specs.Listing.{cut}
-use Rattle.answer.specs.Listing.Cut.{cut-next}
+use Rattle.answer.specs.Listing.Cut.{row-end, cut-next, position-next}
 use Rattle.lines.specs.Text.{line, word-row, wrote}
 use Rattle.lines.specs.Text.Laws.{wrote-none, wrote-then, wrote-end, wrote-length, length-cut-rows}
 use Rattle.lines.proofs.rows.Statement.{statement}
@@ -27,13 +27,6 @@ lines-next xs k i =
     ∙ ap (union-of (line word-row)) (cut-next k i xs)
     ∙ union-append (line word-row) (cut k i xs) (r ∷ [])
     ∙ ap (λ t. lines xs k i ++ t) (append-nil (line word-row r))
-
--- Row i of n ends where row i + 1 starts, before the end of them all.
-row-start : (k i : ℕ) → (i + 1) * k ≡ i * k + k
-row-start k i = ap (λ m. m * k) (add-one i) ∙ suc-mul i k
-
-row-end : (k i n : ℕ) → i < n → i * k + k ≤ n * k
-row-end k i n h = subst (λ m. m ≤ n * k) (suc-mul i k) (mul-le-mul-right k h)
 
 -- They are written, from `at` up to `end`.
 module _ (xs : List ℕ) (k i from at end : ℕ) (out₀ out : List ℕ) (f : from ≡ i * k) (w : (end, out) ≡ wrote at (lines xs k i) out₀) where
@@ -85,7 +78,7 @@ loop-less c = search needs
 loop-again : tie.Need-loop-again Inv-loop μ-loop
 loop-again c =
     let d = c .before .before in let l = d .before .before .before .before .loop in let a = d .before .before .before .before .before .before .before .args in
-    (omega arith, ap (λ m. m + a .k) (l .inv .1) ∙ sym (row-start (a .k) (l .i)), next (a .numbers .now) (a .k) (l .i) (l .from) (a .at) (l .end) (a .out .now) (l .out) (l .inv .1) (l .inv .2) (d .line .result) (d .line .last .1 .1 .1 .1 .0) (d .line .ensures))
+    (omega arith, position-next (a .k) (l .i) (l .from) (l .inv .1), next (a .numbers .now) (a .k) (l .i) (l .from) (a .at) (l .end) (a .out .now) (l .out) (l .inv .1) (l .inv .2) (d .line .result) (d .line .last .1 .1 .1 .1 .0) (d .line .ensures))
 
 same-length : tie.Need-same-length Inv-loop μ-loop
 same-length c =

@@ -6,10 +6,10 @@ use borrow.Author.Needs.{needs}
 use mathlib.Core.Path.{_≡_, sym, ap, _∙_}
 use lib.ListN.{length}
 use Rattle.answer.specs.Listing.{cut}
-use Rattle.answer.specs.Listing.Cut.{length-cut}
+use Rattle.answer.specs.Listing.Cut.{length-cut, position-next, position-within}
 use Rattle.standing.specs.View.{stored}
 use Rattle.standing.specs.View.Laws.{stored-none}
-use Rattle.standing.proofs.Carrying.{position-next, position-within, position-small, spread-next}
+use Rattle.standing.proofs.Carrying.{position-small, spread-next}
 use Rattle.standing.proofs.places.spread.Statement.{statement}
 use Rattle.standing.proofs.places.spread.Tie as tie
 
