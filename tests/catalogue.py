@@ -468,12 +468,15 @@ def over_streams(program, parts=(), closed=None, **streams):
     """What the program writes on both outputs over streams; the input comes part by part, and closed is a stream that it is started without."""
     started = subprocess.Popen([program], **{"stdin": subprocess.PIPE, "stdout": subprocess.PIPE, "stderr": subprocess.PIPE, **streams},
                                preexec_fn=None if closed is None else lambda: os.close(closed))
-    for part in parts:
-        started.stdin.write(part)
-        started.stdin.flush()
-        time.sleep(0.02)
-    if started.stdin:
-        started.stdin.close()
+    try:
+        for part in parts:
+            started.stdin.write(part)
+            started.stdin.flush()
+            time.sleep(0.02)
+        if started.stdin:
+            started.stdin.close()
+    except BrokenPipeError:  # the program ended before it had read all
+        pass
     out = started.stdout.read(MUCH) if started.stdout else b""
     err = started.stderr.read(MUCH) if len(out) < MUCH else b"far too much is written"
     started.kill()
@@ -481,14 +484,29 @@ def over_streams(program, parts=(), closed=None, **streams):
     return out, err
 
 
+def failing_reads():
+    """The library of tests/reads.c."""
+    library = HERE / "target" / "tests" / "reads.so"
+    library.parent.mkdir(parents=True, exist_ok=True)
+    subprocess.run(["gcc", "-std=c11", "-Wall", "-Wextra", "-Werror", "-shared", "-fPIC", "-o", library, HERE / "tests" / "reads.c"], check=True)
+    return library
+
+
 def check_streams(program, data, wanted):
-    """Inputs that come in parts or never end are read as any other; where a read or the writing fails, nothing is printed but a line on standard error."""
+    """Inputs that come in parts, between interrupted reads or without end are read as any other; where a read or the writing fails, nothing is printed but a
+    line on standard error."""
     told = 0
     for name, reply in (("an input in parts", over_streams(program, [data[i:i + 13] for i in range(0, len(data), 13)])),
                         ("an input byte by byte", over_streams(program, [bytes([b]) for b in data]))):
         told += 1
         if reply != (wanted, b""):
             fail(name, f"the program writes {reply!r}, and not {wanted!r}")
+    library = failing_reads()
+    for letters, reply in (("iiriri", (wanted, b"")), ("i" * 300, (wanted, b"")), ("rre", None), ("e", None), ("riie", None)):
+        told += 1
+        out, err = over_streams(program, [data], env={**os.environ, "LD_PRELOAD": str(library), "READS": letters})
+        if (out, err) != reply and (reply or out or not re.fullmatch(rb"standard input: [^\n]+\n", err)):
+            fail(f"reads {letters[:20]}", f"the program writes {out!r}, and on standard error {err!r}")
     with open("/dev/zero", "rb") as zeros, open("/dev/full", "wb") as full:
         reply = over_streams(program, stdin=zeros)
         told += 1

@@ -1,4 +1,5 @@
-// Bytes of text, written from a place of a list on. Each function hands back the place after what it wrote.
+// Bytes of text, written from a place of a list on. Each function hands back the place after what it wrote. For `print` alone (the module is not public): they
+// ask for places for all that they write, which `print` has, since its buffer is longer than the longest output.
 ghost use mathlib.Core.Path.{_≡_};
 ghost use mathlib.Core.List.{_∷_, []};
 ghost use mathlib.Core.Bool.{cond};

@@ -1,4 +1,5 @@
-// The parts of a packed input: whether they are all there, the widths, the record count, and the records, which fill a store.
+// The parts of a packed input: whether they are all there, the widths, the record count, and the records, which fill a store. For `take` alone (the module is
+// not public): it asks for bytes that are there, having judged the length by `is_whole` first.
 use crate::HEAD;
 use crate::LIMIT;
 use crate::RECORD;
