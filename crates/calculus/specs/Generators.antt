@@ -11,7 +11,7 @@ use Rattle.calculus.specs.Sets.{In, member, select, union-of}
 use Rattle.calculus.specs.Order.{sort}
 use Rattle.calculus.specs.Formula.{var, con, Fmla, truth, rel, eq, neg, conj, disj, exists, fv, fv-terms, size, Node, node, nodes}
 use Rattle.calculus.specs.Satisfaction.{Pool, Database, constant, InRecord}
-use Rattle.calculus.specs.Propagation.{exists-free, cp}
+use Rattle.calculus.specs.Propagation.{exists-if-free, cp}
 use Rattle.calculus.specs.Substitution.{subst-for}
 use Rattle.calculus.specs.Generation.{Ap, Generated}
 pub mod Laws
@@ -93,12 +93,12 @@ pub data GenAt : ℕ → Fmla → ℕ → List Fmla → List ℕ → Type 0 wher
   at-conj-right : {x n : ℕ} {φ ψ : Fmla} {G : List Fmla} {L : List ℕ} → GenAt x ψ (n + size φ) G L → GenAt x (conj φ ψ) n G L
   at-conj-eq : {x y n : ℕ} {φ : Fmla} {G : List Fmla} {L : List ℕ} → GenAt y φ n G L → GenAt x (conj φ (eq x (var y))) n (map (λ χ. cp (subst-for χ y x)) G) L
   at-conj-eq′ : {x y n : ℕ} {φ : Fmla} {G : List Fmla} {L : List ℕ} → GenAt y φ n G L → GenAt x (conj φ (eq y (var x))) n (map (λ χ. cp (subst-for χ y x)) G) L
-  at-exists : {x y n : ℕ} {φ : Fmla} {G : List Fmla} {L : List ℕ} → x ≢ y → GenAt x φ n G L → GenAt x (exists y φ) n (map (exists-free y) G) L
+  at-exists : {x y n : ℕ} {φ : Fmla} {G : List Fmla} {L : List ℕ} → x ≢ y → GenAt x φ n G L → GenAt x (exists y φ) n (map (exists-if-free y) G) L
 
 -- The right answers to "is x generated in φ": the leaves beside a set that 000 allows, or "none" where 000 allows no set.
-pub data Answered (x : ℕ) (φ : Fmla) (n : ℕ) : Leaves → Type 0 where
-  generated-by : {L : List ℕ} (G : List Fmla) → GenAt x φ n G L → Answered x φ n (some L)
-  not-generated : ¬ Generated x φ → Answered x φ n none
+pub data LeavesRight (x : ℕ) (φ : Fmla) (n : ℕ) : Leaves → Type 0 where
+  generated-by : {L : List ℕ} (G : List Fmla) → GenAt x φ n G L → LeavesRight x φ n (some L)
+  not-generated : ¬ Generated x φ → LeavesRight x φ n none
 
 -- v has its value from the leaf: it is in a record of the leaf's relation, or is the leaf's constant.
 abbrev pub Source : Pool → Database → Fmla → ℕ → Type 0

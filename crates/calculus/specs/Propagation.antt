@@ -9,8 +9,8 @@ use Rattle.calculus.specs.Formula.{Term, var, con, Fmla, truth, rel, eq,
 pub mod Laws
 
 -- 000: exists x Q, the exists that is dropped where its variable isn't free below it.
-abbrev pub exists-free : ℕ → Fmla → Fmla
-exists-free x φ = cond (member x (fv φ)) (exists x φ) φ
+abbrev pub exists-if-free : ℕ → Fmla → Fmla
+exists-if-free x φ = cond (member x (fv φ)) (exists x φ) φ
 
 -- 000: is_Bool.
 abbrev pub is-truth : Fmla → Bool
@@ -60,7 +60,7 @@ cp (eq x t) = cp-eq x t
 cp (neg φ) = cp-neg (cp φ)
 cp (conj φ ψ) = cp-conj (cp φ) (cp ψ)
 cp (disj φ ψ) = cp-disj (cp φ) (cp ψ)
-cp (exists x φ) = exists-free x (cp φ)
+cp (exists x φ) = exists-if-free x (cp φ)
 
 -- 000: nocp, nothing left to propagate. 000 prints "or" for a disjunction, under which its own lemma nocp_cp_triv fails at
 -- 1(x) or false: read "and".

@@ -5,7 +5,7 @@ use Rattle.calculus.specs.Formula.{Fmla, exists, fv, node, nodes}
 use Rattle.calculus.specs.Propagation.{cp}
 use Rattle.calculus.specs.Generation.{Generated}
 pub mod Laws
-pub mod Answers
+pub mod Result
 
 -- 000: Exists y Qy ∈ sub Q (2.4), at some node.
 abbrev pub HasNode : Fmla → Fmla → Type 0

@@ -6,7 +6,7 @@ use lib.ListN.{length, drop}
 use lib.Dec.{ltb}
 use Rattle.calculus.specs.Sets.{union-of}
 use Rattle.calculus.specs.Lists.{padded}
-use Rattle.calculus.specs.Rows.{Row, Answers, endless, listed}
+use Rattle.calculus.specs.Rows.{Row, Result, endless, listed}
 use Rattle.causes.specs.declared.Answer.{Answer}
 use Rattle.causes.specs.declared.Answer.the-variants.{Done, Refused}
 use Rattle.causes.specs.Causes.{first-cause}
@@ -15,7 +15,7 @@ use Rattle.query.specs.Reading.{max-nodes, max-constants, max-columns, pool, no
 use Rattle.query.specs.Packing.{word-bytes, packed-bytes}
 use Rattle.verdict.specs.declared.Verdict.{Verdict}
 use Rattle.answer.specs.Listing.{numbers}
-use Rattle.packed.specs.Packed.{judged-of, answers-in, list-checks}
+use Rattle.packed.specs.Packed.{judged-of, result-in, list-checks}
 pub mod Laws
 
 -- ---- numbers returned
@@ -76,13 +76,13 @@ abbrev pub row-bytes : List Row → List ℕ
 row-bytes rows = union-of word-bytes (numbers rows)
 
 -- The number of rows, and the rows at the front of the lent output; or that the answer is endless, or a refusal, and the lent output as it was.
-abbrev pub answer-reply : Answer → Answers → List ℕ → ℕ × List ℕ
+abbrev pub answer-reply : Answer → Result → List ℕ → ℕ × List ℕ
 answer-reply Done endless out = (code-endless, out)
 answer-reply Done (listed rows) out = (length rows, row-bytes rows ++ drop (length (row-bytes rows)) out)
 answer-reply (Refused n p) found out = (refusal n p, out)
 
 abbrev pub answer-entry : List ℕ → List ℕ → ℕ × List ℕ
-answer-entry bs out = answer-reply (first-cause (list-checks bs (room-in (length out)))) (answers-in bs) out
+answer-entry bs out = answer-reply (first-cause (list-checks bs (room-in (length out)))) (result-in bs) out
 
 -- ---- how the code goes about it
 

@@ -6,14 +6,14 @@ use lib.ListN.{length, drop}
 use lib.Dec.{ltb}
 use Rattle.calculus.specs.Sets.{union-of}
 use Rattle.calculus.specs.Generators.{columns, verdict, safe}
-use Rattle.calculus.specs.Rows.{Answers, endless, listed}
+use Rattle.calculus.specs.Rows.{Result, endless, listed}
 use Rattle.causes.specs.declared.Answer.{Answer}
 use Rattle.causes.specs.declared.Answer.the-variants.{Done, Refused}
 use Rattle.causes.specs.Causes.{first-cause}
 use Rattle.query.specs.declared.Query.{Query}
 use Rattle.query.specs.Reading.{formula}
 use Rattle.answer.specs.Listing.{overlay}
-use Rattle.packed.specs.Packed.{query-read, answers-in, list-checks}
+use Rattle.packed.specs.Packed.{query-read, result-in, list-checks}
 pub mod Laws
 pub mod Digits
 pub mod Output
@@ -78,7 +78,7 @@ word-endless = 101 ∷ 110 ∷ 100 ∷ 108 ∷ 101 ∷ 115 ∷ 115 ∷ []
 -- ---- the output
 
 -- A row line of values each, then the number of rows; or `endless` in place of both.
-abbrev pub answer-text : Answers → List ℕ
+abbrev pub answer-text : Result → List ℕ
 answer-text endless = line word-endless []
 answer-text (listed rows) = union-of (line word-row) rows ++ line word-rows (length rows ∷ [])
 
@@ -87,13 +87,13 @@ abbrev pub head-text : Bool → List ℕ → List ℕ
 head-text safe cols = line (cond safe word-safe word-unsafe) [] ++ line word-columns cols
 
 -- A refusal prints only its own line.
-abbrev pub reply-text : Answer → Query → Answers → List ℕ
+abbrev pub reply-text : Answer → Query → Result → List ℕ
 reply-text Done q found = head-text (safe (verdict (formula q))) (columns (formula q)) ++ answer-text found
 reply-text (Refused n p) q found = line word-refused (n ∷ p ∷ [])
 
 -- The whole output for the input bs.
 abbrev pub text-of : List ℕ → List ℕ
-text-of bs = reply-text (first-cause (list-checks bs room)) (query-read bs) (answers-in bs)
+text-of bs = reply-text (first-cause (list-checks bs room)) (query-read bs) (result-in bs)
 
 -- Its length, and the buffer with it at the front.
 abbrev pub printed : List ℕ → List ℕ → ℕ × List ℕ

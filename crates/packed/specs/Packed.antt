@@ -7,7 +7,7 @@ use lib.Dec.{leb}
 use Rattle.calculus.specs.Lists.{tabulate}
 use Rattle.calculus.specs.Order.{insert}
 use Rattle.calculus.specs.Generators.{columns, verdict, safe}
-use Rattle.calculus.specs.Rows.{Answers}
+use Rattle.calculus.specs.Rows.{Result}
 use Rattle.causes.specs.declared.Answer.{Answer}
 use Rattle.causes.specs.declared.Answer.the-variants.{Done, Refused}
 use Rattle.causes.specs.Causes.{Check, check, first-cause, when}
@@ -23,7 +23,7 @@ use Rattle.query.specs.Reading.{byte-at, word-at, read-of, read-checks, query-o
 use Rattle.verdict.specs.declared.Verdict.{Verdict}
 use Rattle.verdict.specs.Verdict.{judged, refusal as verdict-refusal}
 use Rattle.answer.specs.declared.Found.{Found}
-use Rattle.answer.specs.Reply.{answers-to, row-checks, worked}
+use Rattle.answer.specs.Reply.{result-of, row-checks, worked}
 use Rattle.packed.specs.declared.Input.{Input}
 use Rattle.packed.specs.declared.Listing.{Listing}
 pub mod Laws
@@ -113,8 +113,8 @@ judged-of bs = judged-reply (first-cause (input-checks bs)) (query-read bs)
 -- ---- its list
 
 -- What the query answers over the records.
-abbrev pub answers-in : List ℕ → Answers
-answers-in bs = answers-to (store-in bs) (query-read bs)
+abbrev pub result-in : List ℕ → Result
+result-in bs = result-of (store-in bs) (query-read bs)
 
 -- Cause 18 comes last: rows × columns over the room.
 abbrev pub list-checks : List ℕ → ℕ → List Check
@@ -128,13 +128,13 @@ abbrev pub beside : Found → Bool → Columns → Listing
 beside f safe cols = record { answer = Done; safe = safe; columns = cols; endless = f .endless; rows = f .rows }
 
 -- Endless or rows as the answers call has them, with the rows at the front of the buffer.
-abbrev pub listing-reply : Answer → Query → Answers → List ℕ → Listing × List ℕ
+abbrev pub listing-reply : Answer → Query → Result → List ℕ → Listing × List ℕ
 listing-reply Done q found buffer =
     (beside (worked found buffer .0) (safe (verdict (formula q))) (columns-of (columns (formula q))), worked found buffer .1)
 listing-reply (Refused n p) q found buffer = (declined n p, buffer)
 
 abbrev pub listing-of : List ℕ → List ℕ → Listing × List ℕ
-listing-of bs buffer = listing-reply (first-cause (list-checks bs (length buffer))) (query-read bs) (answers-in bs) buffer
+listing-of bs buffer = listing-reply (first-cause (list-checks bs (length buffer))) (query-read bs) (result-in bs) buffer
 
 -- ---- how the code goes about it
 

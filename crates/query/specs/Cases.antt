@@ -11,8 +11,8 @@ use Rattle.calculus.specs.Formula.{Term, var, con, Fmla, truth, rel, eq, neg, c
 use Rattle.calculus.specs.Satisfaction.{fact, Database, Pool}
 use Rattle.calculus.specs.Generators.{columns, Verdict, verdict, safe}
 use Rattle.calculus.specs.SafeRange.{SafeRange}
-use Rattle.calculus.specs.Rows.{Answers, endless, listed, Right}
-use Rattle.calculus.specs.Evaluation.{answers}
+use Rattle.calculus.specs.Rows.{Result, endless, listed, Right}
+use Rattle.calculus.specs.Evaluation.{query-result}
 use Rattle.causes.specs.declared.Answer.the-variants.{Done}
 use Rattle.causes.specs.Causes.{is-done}
 use Rattle.query.specs.declared.Reading.{Reading}
@@ -29,7 +29,7 @@ pub record Case : Type 0 where
   pub query : Fmla
   pub says : Verdict
   pub says-safe : Bool
-  pub gives : Answers
+  pub gives : Result
 
 -- The store S: relation 0 of width 2, relation 1 of width 1; x and y are variables 0 and 1.
 abbrev pub widths : List ℕ
@@ -44,7 +44,7 @@ x = var 0
 abbrev y : Term
 y = var 1
 
-abbrev pub case : Database → List ℕ → Pool → Fmla → List ℕ → List (List ℕ) → List ℕ → List ℕ → Bool → Answers → Case
+abbrev pub case : Database → List ℕ → Pool → Fmla → List ℕ → List (List ℕ) → List ℕ → List ℕ → Bool → Result → Case
 case D bs pool φ cols gens ungen unrng safe-range rows =
     record {
       records = D;
@@ -56,7 +56,7 @@ case D bs pool φ cols gens ungen unrng safe-range rows =
       gives = rows;
     }
 
-abbrev pub only : List ℕ → Answers
+abbrev pub only : List ℕ → Result
 only w = listed (w ∷ [])
 
 -- records, packed query, constants, formula; columns, their generator nodes, ungenerated variables, ungenerated exists nodes, safe-range; answers
@@ -111,7 +111,7 @@ same-verdict v w =
     && same-list (v .ungenerated) (w .ungenerated)
     && same-list (v .unranged) (w .unranged)
 
-abbrev pub same-answers : Answers → Answers → Bool
+abbrev pub same-answers : Result → Result → Bool
 same-answers endless endless = true
 same-answers endless (listed l) = false
 same-answers (listed l) endless = false
@@ -134,7 +134,7 @@ passes c =
     && is-done (read-case c .answer)
     && same-verdict (verdict (formula-of c)) (c .says)
     && Bool·beq (safe (verdict (formula-of c))) (c .says-safe)
-    && same-answers (answers (pool-of c) (c .records) (formula-of c) (columns (formula-of c))) (c .gives)
+    && same-answers (query-result (pool-of c) (c .records) (formula-of c) (columns (formula-of c))) (c .gives)
 
 -- What it is for a case to be right: the bytes are the packing of its formula, and the reader accepts them; the verdict is that of the definitions, the
 -- query is safe-range exactly when the case says so, and what it gives is right over all whole numbers.

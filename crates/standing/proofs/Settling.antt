@@ -14,7 +14,7 @@ use Rattle.calculus.specs.Reflects.{Reflects, holds, fails, reflects-ltb}
 use Rattle.calculus.specs.Lists.{padded}
 use Rattle.calculus.specs.Order.{Ascending}
 use Rattle.calculus.specs.Generators.{columns}
-use Rattle.calculus.specs.Rows.{Row, row-below, Answers, endless, listed, only-in}
+use Rattle.calculus.specs.Rows.{Row, row-below, Result, endless, listed, only-in}
 use Rattle.causes.specs.declared.Answer.{Answer}
 use Rattle.causes.specs.declared.Answer.the-variants.{Done, Refused}
 use Rattle.causes.specs.Causes.{check, first-cause, when, is-done}
@@ -25,7 +25,7 @@ use Rattle.query.specs.Reading.{formula}
 use Rattle.answer.specs.declared.Found.{Found}
 use Rattle.answer.specs.Listing.{numbers, cut, Width}
 use Rattle.answer.specs.Listing.Cut.{cut-numbers}
-use Rattle.answer.specs.Reply.{answers-to, exceeds, found-reply, Evaluable, evaluated}
+use Rattle.answer.specs.Reply.{result-of, exceeds, found-reply, Evaluable, evaluated}
 use Rattle.standing.specs.declared.Rows.{Rows}
 use Rattle.standing.specs.declared.View.{View}
 use Rattle.standing.specs.declared.Current.{Current}
@@ -36,7 +36,7 @@ use Rattle.standing.specs.View.Difference.{padded-ascending, only-in-pad
 use Rattle.standing.specs.View.Layout.{Layout, suited}
 use Rattle.standing.specs.Checks.{is-over, report-checks}
 use Rattle.standing.specs.Change.{joining, leaving, fronted, refusal, turn-reply, current, Suits, settled}
-use Rattle.standing.specs.Change.Turn.{answers-wide, answers-ascend, report-done, too-many, all-kept, current-over, current-kept, over-is, settled-by}
+use Rattle.standing.specs.Change.Turn.{result-wide, result-ascends, report-done, too-many, all-kept, current-over, current-kept, over-is, settled-by}
 
 -- ---- at most 512 rows of at most four columns
 
@@ -55,15 +55,15 @@ never-both : {a : Answer} {n p : ℕ} → a ≡ Refused n p → a ≡ Done → �
 never-both e d = subst (λ b. T (is-done b)) e (subst⁻¹ (λ b. T (is-done b)) d tt)
 
 -- All rows of k columns are told.
-abbrev Told : ℕ → Answers → Found × List ℕ → Type 0
+abbrev Told : ℕ → Result → Found × List ℕ → Type 0
 Told k found r = (r .0 .rows ≡ length (kept found)) × (r .0 .endless ≡ mark found) × (cut k (r .0 .rows) (r .1) ≡ kept found)
 
 -- They are refused, being over 512, or told.
-abbrev Outcome : ℕ → Answers → Found × List ℕ → Type 0
+abbrev Outcome : ℕ → Result → Found × List ℕ → Type 0
 Outcome k found r = ((r .0 .answer ≡ Refused 18 0) × (512 < length (kept found))) ⊎ ((r .0 .answer ≡ Done) × Told k found r)
 
 -- So it is in a buffer of 2048 numbers.
-outcome : (k : ℕ) → k ≤ 4 → (buffer : List ℕ) → length buffer ≡ 2048 → (found : Answers) → Width k (kept found) → Outcome k found (found-reply (first-cause (check 18 (when (exceeds (length buffer) k found)) ∷ [])) found buffer)
+outcome : (k : ℕ) → k ≤ 4 → (buffer : List ℕ) → length buffer ≡ 2048 → (found : Result) → Width k (kept found) → Outcome k found (found-reply (first-cause (check 18 (when (exceeds (length buffer) k found)) ∷ [])) found buffer)
 outcome k few buffer room endless wide = inr (refl, (refl, refl, refl))
 outcome k few buffer room (listed rows) wide = go (reflects-ltb (length buffer) (length rows * k))
   where
@@ -77,14 +77,14 @@ few-columns h = subst⁻¹ (λ c. c .count ≤ 4) (h .columns-are) (h .accepted 
 
 -- The reply f to it, and the buffer after it.
 module _ {s : Store} {q : Query} {cs : Columns} (h : Evaluable s q cs) (f : Found) (after : List ℕ) (e : (f, after) ≡ evaluated s q (replicate 2048 0)) where
-  abbrev found : Answers
-  found = answers-to s q
+  abbrev found : Result
+  found = result-of s q
 
   abbrev k : ℕ
   k = length (columns (formula q))
 
   reply : Outcome k found (f, after)
-  reply = subst⁻¹ (Outcome k found) e (outcome k (h .accepted .packable .few-columns) (replicate 2048 0) (length-replicate {A = ℕ} 2048 0) found (answers-wide s q))
+  reply = subst⁻¹ (Outcome k found) e (outcome k (h .accepted .packable .few-columns) (replicate 2048 0) (length-replicate {A = ℕ} 2048 0) found (result-wide s q))
 
   -- Refused: they are over 512.
   pub find-refused : (n p : ℕ) → f .answer ≡ Refused n p → current found ≡ too-many
@@ -140,12 +140,12 @@ pub record Renewed (t : Store) (v : View) (q : Query) (cs : Columns) (new : Curr
   pub suiting : Suits v q
   pub places : length (v .columns .variables) ≡ 4
   pub opened : v .opening < 2 ^ 64
-  pub new-is : new ≡ current (answers-to t q)
+  pub new-is : new ≡ current (result-of t q)
   pub not-over : new .over ≡ false
 
 module _ {t : Store} {v : View} {q : Query} {cs : Columns} {new : Current} (r : Renewed t v q cs new) where
-  abbrev answered : Answers
-  answered = answers-to t q
+  abbrev answered : Result
+  answered = result-of t q
 
   abbrev width : ℕ
   width = length (columns (formula q))
@@ -170,13 +170,13 @@ module _ {t : Store} {v : View} {q : Query} {cs : Columns} {new : Current} (r : 
   new-kept = r .new-is ∙ current-kept answered few-new
 
   new-lines : lines-held (new .rows) ≡ map (padded 4 0) (kept answered)
-  new-lines = ap (λ c. lines-held (c .rows)) new-kept ∙ lines-stored width few (kept answered) few-new (answers-wide t q)
+  new-lines = ap (λ c. lines-held (c .rows)) new-kept ∙ lines-stored width few (kept answered) few-new (result-wide t q)
 
   -- Both lists are in order.
   pub new-in-order : InOrder (new .rows)
   new-in-order = (
     subst⁻¹ (λ c. c .rows .count ≤ 512) new-kept few-new,
-    subst⁻¹ (Ascending row-below) new-lines (padded-ascending width (answers-wide t q) (answers-ascend t q)),
+    subst⁻¹ (Ascending row-below) new-lines (padded-ascending width (result-wide t q) (result-ascends t q)),
   )
 
   pub old-in-order : InOrder (v .rows)
@@ -196,21 +196,21 @@ module _ {t : Store} {v : View} {q : Query} {cs : Columns} {new : Current} (r : 
   -- The rows that joined and left, in their places.
   module _ {added gone : Rows} (p : added ≡ stored (only-in (lines-held (new .rows)) (lines-held (v .rows)))) (g : gone ≡ stored (only-in (lines-held (v .rows)) (lines-held (new .rows)))) where
     added-is : added ≡ stored (joining v answered)
-    added-is = p ∙ compared width few (kept answered) (rows-in v) few-new (answers-wide t q) (layout .wide) new-lines (layout .lines-are)
+    added-is = p ∙ compared width few (kept answered) (rows-in v) few-new (result-wide t q) (layout .wide) new-lines (layout .lines-are)
 
     gone-is : gone ≡ stored (leaving v answered)
-    gone-is = g ∙ compared width few (rows-in v) (kept answered) few-old (layout .wide) (answers-wide t q) (layout .lines-are) new-lines
+    gone-is = g ∙ compared width few (rows-in v) (kept answered) few-old (layout .wide) (result-wide t q) (layout .lines-are) new-lines
 
     -- They are at most 512.
     pub few-added : added .count ≤ 512
-    few-added = subst⁻¹ (λ c. c .count ≤ 512) added-is (some-fewer width few (kept answered) (rows-in v) few-new (answers-wide t q))
+    few-added = subst⁻¹ (λ c. c .count ≤ 512) added-is (some-fewer width few (kept answered) (rows-in v) few-new (result-wide t q))
 
     pub few-gone : gone .count ≤ 512
     few-gone = subst⁻¹ (λ c. c .count ≤ 512) gone-is (some-fewer width few (rows-in v) (kept answered) few-old (layout .wide))
 
     -- Written out.
     joined-written : (out : List ℕ) → fronted (map (take (cs .count)) (lines-held added)) out ≡ fronted (joining v answered) out
-    joined-written out = (λ i. fronted (map (take (r .evaluable .columns-are i .count)) (lines-held (added-is i))) out) ∙ written width few (kept answered) (rows-in v) few-new (answers-wide t q) out
+    joined-written out = (λ i. fronted (map (take (r .evaluable .columns-are i .count)) (lines-held (added-is i))) out) ∙ written width few (kept answered) (rows-in v) few-new (result-wide t q) out
 
     left-written : (out : List ℕ) → fronted (map (take (cs .count)) (lines-held gone)) out ≡ fronted (leaving v answered) out
     left-written out = (λ i. fronted (map (take (r .evaluable .columns-are i .count)) (lines-held (gone-is i))) out) ∙ written width few (rows-in v) (kept answered) few-old (layout .wide) out

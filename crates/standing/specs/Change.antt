@@ -6,7 +6,7 @@ use mathlib.Core.List.{List, [], _∷_, _++_}
 use lib.ListN.{length, drop}
 use lib.Dec.{T}
 use Rattle.calculus.specs.Generators.{columns}
-use Rattle.calculus.specs.Rows.{Row, Answers, endless, listed, only-in}
+use Rattle.calculus.specs.Rows.{Row, Result, endless, listed, only-in}
 use Rattle.causes.specs.declared.Answer.{Answer}
 use Rattle.causes.specs.declared.Answer.the-variants.{Done, Refused}
 use Rattle.causes.specs.Causes.{Check, check, first-cause, when}
@@ -19,7 +19,7 @@ use Rattle.query.specs.declared.Query.{Query}
 use Rattle.query.specs.declared.Reading.{Reading}
 use Rattle.query.specs.Reading.{formula, read-of, read-checks}
 use Rattle.answer.specs.Listing.{numbers}
-use Rattle.answer.specs.Reply.{answers-to, query-read}
+use Rattle.answer.specs.Reply.{result-of, query-read}
 use Rattle.standing.specs.declared.View.{View}
 use Rattle.standing.specs.declared.Current.{Current}
 use Rattle.standing.specs.declared.Opened.{Opened}
@@ -38,14 +38,14 @@ abbrev pub begin-checks : Store → List ℕ → List Check
 begin-checks s bs = store-checks s ++ read-checks (s .widths) bs
 
 -- Cause 17.
-abbrev pub over-checks : Answers → List Check
+abbrev pub over-checks : Result → List Check
 over-checks found = check 17 (when (is-over (length (kept found)))) ∷ []
 
 -- A refusal hands back a list without columns and rows.
 abbrev pub refused-opening : ℕ → ℕ → Opened
 refused-opening n p = record { answer = Refused n p; view = view-of [] (listed []) 0 0 0 }
 
-abbrev pub opening-reply : Answer → List ℕ → Answers → Opened
+abbrev pub opening-reply : Answer → List ℕ → Result → Opened
 opening-reply Done cols found = record { answer = Done; view = view-of cols found (length (kept found)) 0 0 }
 opening-reply (Refused n p) cols found = refused-opening n p
 
@@ -53,20 +53,20 @@ opening-reply (Refused n p) cols found = refused-opening n p
 abbrev pub opened-of : Store → List ℕ → Opened
 opened-of s bs =
     let q : Query = query-read s bs in
-    let found : Answers = answers-to s q in
+    let found : Result = result-of s q in
     opening-reply (first-cause (begin-checks s bs ++ over-checks found)) (columns (formula q)) found
 
 -- ---- a change
 
 -- The rows that joined and those that left, where the list v comes to hold what is found.
-abbrev pub joining : View → Answers → List Row
+abbrev pub joining : View → Result → List Row
 joining v found = only-in (kept found) (rows-in v)
 
-abbrev pub leaving : View → Answers → List Row
+abbrev pub leaving : View → Result → List Row
 leaving v found = only-in (rows-in v) (kept found)
 
 -- Causes 17 to 19, where the buffers have the lengths a and b.
-abbrev pub turn-checks : View → List ℕ → Answers → ℕ → ℕ → List Check
+abbrev pub turn-checks : View → List ℕ → Result → ℕ → ℕ → List Check
 turn-checks v cols found a b =
     let j : ℕ = length (joining v found) in
     let l : ℕ = length (leaving v found) in
@@ -81,7 +81,7 @@ abbrev pub refusal : ℕ → ℕ → Store → View → Change
 refusal n p s v = record { answer = Refused n p; joined = 0; left = 0; store = s; view = v }
 
 -- It leaves both buffers too; else the store is t, and the list holds what is found, with its counts added to.
-abbrev pub turn-reply : Answer → Store → Store → View → List ℕ → Answers → List ℕ → List ℕ → Change × (List ℕ × List ℕ)
+abbrev pub turn-reply : Answer → Store → Store → View → List ℕ → Result → List ℕ → List ℕ → Change × (List ℕ × List ℕ)
 turn-reply Done s t v cols found first second =
     let j : ℕ = length (joining v found) in
     let l : ℕ = length (leaving v found) in (
@@ -103,7 +103,7 @@ abbrev pub change-of : Kind → Store → View → List ℕ → Record → List 
 change-of kind s v bs r first second =
     let q : Query = query-read s bs in
     let t : Store = store-after kind s r in
-    let found : Answers = answers-to t q in
+    let found : Result = result-of t q in
     turn-reply
     (first-cause (ready-checks s v bs ++ (record-checks kind (s .widths) (held s) r ++ turn-checks v (columns (formula q)) found (length first) (length second))))
     s t v (columns (formula q)) found first second
@@ -111,7 +111,7 @@ change-of kind s v bs r first second =
 -- ---- how the code goes about it
 
 -- Rows found anew: whether they are over 512, and else the rows and the mark.
-abbrev pub current : Answers → Current
+abbrev pub current : Result → Current
 current found =
     cond
     (is-over (length (kept found)))
@@ -138,5 +138,5 @@ altered removal s r = deletion s r
 -- The reply to a change that came to the store t.
 abbrev pub settled : Store → Store → View → Query → List ℕ → List ℕ → Change × (List ℕ × List ℕ)
 settled s t v q first second =
-    let found : Answers = answers-to t q in
+    let found : Result = result-of t q in
     turn-reply (first-cause (turn-checks v (columns (formula q)) found (length first) (length second))) s t v (columns (formula q)) found first second

@@ -9,7 +9,7 @@ use lib.ListN.{length}
 use Rattle.calculus.specs.Sets.{In}
 use Rattle.calculus.specs.Order.{Ascending}
 use Rattle.calculus.specs.Generators.{columns}
-use Rattle.calculus.specs.Rows.{Row, row-below, Answer, Endless, only-in}
+use Rattle.calculus.specs.Rows.{Row, row-below, RowSat, Endless, only-in}
 use Rattle.causes.specs.declared.Answer.{Answer as Outcome}
 use Rattle.causes.specs.declared.Answer.the-variants.{Done, Refused}
 use Rattle.causes.specs.Causes.{Check, first-cause}
@@ -50,7 +50,7 @@ pub record Report : Type 0 where
 abbrev pub Found : Query → List ℕ → List Record → Bool → List Row → Type 0
 Found q ws records true rows = Endless (pool q) (map (fact-of ws) records) (formula q) (columns (formula q)) × (rows ≡ [])
 Found q ws records false rows =
-    Ascending row-below rows × ((w : Row) → In w rows ↔ Answer (pool q) (map (fact-of ws) records) (formula q) (columns (formula q)) w)
+    Ascending row-below rows × ((w : Row) → In w rows ↔ RowSat (pool q) (map (fact-of ws) records) (formula q) (columns (formula q)) w)
 
 -- At the opening its widths and records are the store's; the count of rows at opening is the number kept, the others are 0.
 pub record Opens (q : Query) (s : Store) (l : Ledger) : Type 0 where

@@ -9,7 +9,7 @@ use lib.Dec.{T, eqb, ltb, leb}
 use Rattle.calculus.specs.Sets.{In, all-of, union-of, same-list}
 use Rattle.calculus.specs.Lists.{tabulate, padded}
 use Rattle.calculus.specs.Order.{Ascending, is-ascending}
-use Rattle.calculus.specs.Rows.{Row, row-below, Answers, endless, listed}
+use Rattle.calculus.specs.Rows.{Row, row-below, Result, endless, listed}
 use Rattle.query.specs.declared.Columns.{Columns}
 use Rattle.query.specs.Reading.{max-columns, columns-of}
 use Rattle.verdict.specs.Generating.{variables-in}
@@ -84,16 +84,16 @@ suits v cols = view-fits v && same-list (columns-in v) cols
 -- ---- the list of what a query answers
 
 -- The rows that a list keeps of it, and its mark: an endless one keeps none.
-abbrev pub kept : Answers → List Row
+abbrev pub kept : Result → List Row
 kept endless = []
 kept (listed rows) = rows
 
-abbrev pub mark : Answers → Bool
+abbrev pub mark : Result → Bool
 mark endless = true
 mark (listed rows) = false
 
 -- The list of these columns and answers, with its counts of rows at opening, joined and left.
-abbrev pub view-of : List ℕ → Answers → ℕ → ℕ → ℕ → View
+abbrev pub view-of : List ℕ → Result → ℕ → ℕ → ℕ → View
 view-of cols found opening joined left =
     record { columns = columns-of cols; rows = stored (kept found); endless = mark found; opening = opening; joined = joined; left = left }
 

@@ -9,11 +9,11 @@ use Rattle.calculus.specs.Sets.Laws.{in-one, in-left, in-right, in-map}
 use Rattle.calculus.specs.Formula.{var, con, Fmla, truth, rel, eq, neg, conj, disj, exists, fv, fv-terms}
 use Rattle.calculus.specs.Satisfaction.{Pool, Database, Env, bind, Sat}
 use Rattle.calculus.specs.Satisfaction.Laws.{bind-cases, sat-cong}
-use Rattle.calculus.specs.Propagation.{exists-free, cp}
+use Rattle.calculus.specs.Propagation.{exists-if-free, cp}
 use Rattle.calculus.specs.Propagation.Laws.{cp-sat, exists-sat}
 use Rattle.calculus.specs.Substitution.{subst-for}
 use Rattle.calculus.specs.Substitution.Laws.{subst-sat}
-use Rattle.calculus.specs.Generation.{ap-rel, ap-eq, Gen, gen-false, gen-atom, gen-neg-neg, gen-neg-disj, gen-neg-conj, gen-disj, gen-conj-left, gen-conj-right, gen-conj-eq, gen-conj-eq′, gen-exists, Generated}
+use Rattle.calculus.specs.Generation.{ap-rel, ap-eq, GenBy, gen-false, gen-atom, gen-neg-neg, gen-neg-disj, gen-neg-conj, gen-disj, gen-conj-left, gen-conj-right, gen-conj-eq, gen-conj-eq′, gen-exists, Generated}
 use Rattle.calculus.specs.Evaluation.Laws.{sat-decided}
 
 -- ---- inversion
@@ -32,15 +32,15 @@ Origin x (eq y (con p)) G = (x ≡ y) × (G ≡ eq y (con p) ∷ [])
 Origin x (neg (truth b)) G = ⊥
 Origin x (neg (rel r ts)) G = ⊥
 Origin x (neg (eq y t)) G = ⊥
-Origin x (neg (neg φ)) G = Gen x φ G
-Origin x (neg (conj φ ψ)) G = Gen x (disj (neg φ) (neg ψ)) G
-Origin x (neg (disj φ ψ)) G = Gen x (conj (neg φ) (neg ψ)) G
+Origin x (neg (neg φ)) G = GenBy x φ G
+Origin x (neg (conj φ ψ)) G = GenBy x (disj (neg φ) (neg ψ)) G
+Origin x (neg (disj φ ψ)) G = GenBy x (conj (neg φ) (neg ψ)) G
 Origin x (neg (exists z φ)) G = ⊥
-Origin x (conj φ ψ) G = Gen x φ G ⊎ (Gen x ψ G ⊎ ((y : ℕ) × Equates ψ x y × (g : Generated y φ) × (G ≡ map (λ χ. cp (subst-for χ y x)) (g .0))))
+Origin x (conj φ ψ) G = GenBy x φ G ⊎ (GenBy x ψ G ⊎ ((y : ℕ) × Equates ψ x y × (g : Generated y φ) × (G ≡ map (λ χ. cp (subst-for χ y x)) (g .0))))
 Origin x (disj φ ψ) G = (g : Generated x φ) × (h : Generated x ψ) × (G ≡ g .0 ++ h .0)
-Origin x (exists y φ) G = (x ≢ y) × (g : Generated x φ) × (G ≡ map (exists-free y) (g .0))
+Origin x (exists y φ) G = (x ≢ y) × (g : Generated x φ) × (G ≡ map (exists-if-free y) (g .0))
 
-pub origin : {x : ℕ} {φ : Fmla} {G : List Fmla} → Gen x φ G → Origin x φ G
+pub origin : {x : ℕ} {φ : Fmla} {G : List Fmla} → GenBy x φ G → Origin x φ G
 origin gen-false = refl
 origin (gen-atom ap-rel i) = (i, refl)
 origin (gen-atom ap-eq i) = (in-one i, refl)
@@ -75,7 +75,7 @@ module _ (pool : Pool) (D : Database) where
   image-sat f G σ τ h s = (f (s .0), in-map f (s .1), h (s .0) (s .2))
 
   -- 000: gen_sat.
-  pub gen-sat : {x : ℕ} {φ : Fmla} {G : List Fmla} → Gen x φ G → (σ : Env) → Sat pool D φ σ → Any (λ χ. Sat pool D χ σ) G
+  pub gen-sat : {x : ℕ} {φ : Fmla} {G : List Fmla} → GenBy x φ G → (σ : Env) → Sat pool D φ σ → Any (λ χ. Sat pool D χ σ) G
   gen-sat gen-false σ s = absurd s
   gen-sat (gen-atom {φ = φ} a i) σ s = (φ, here refl, s)
   gen-sat (gen-neg-neg {φ = φ} d) σ s = gen-sat d σ (sat-neg-neg φ σ s)
@@ -87,4 +87,4 @@ module _ (pool : Pool) (D : Database) where
   gen-sat (gen-conj-right d) σ s = gen-sat d σ (s .1)
   gen-sat (gen-conj-eq {x} {y} {G = G} d) σ s = image-sat (λ χ. cp (subst-for χ y x)) G σ σ (λ χ. moved-sat χ x y σ (s .1)) (gen-sat d σ (s .0))
   gen-sat (gen-conj-eq′ {x} {y} {G = G} d) σ s = image-sat (λ χ. cp (subst-for χ y x)) G σ σ (λ χ. moved-sat χ x y σ (sym (s .1))) (gen-sat d σ (s .0))
-  gen-sat (gen-exists {y = y} {G = G} n d) σ s = image-sat (exists-free y) G (bind y (s .0) σ) σ (λ χ t. exists-sat pool D y χ σ .1 (s .0, t)) (gen-sat d (bind y (s .0) σ) (s .1))
+  gen-sat (gen-exists {y = y} {G = G} n d) σ s = image-sat (exists-if-free y) G (bind y (s .0) σ) σ (λ χ t. exists-sat pool D y χ σ .1 (s .0, t)) (gen-sat d (bind y (s .0) σ) (s .1))

@@ -14,15 +14,15 @@ use Rattle.calculus.specs.Formula.{Term, var, con, Fmla, truth, rel, eq,
 use Rattle.calculus.specs.Formula.Laws.{formula-of, joined, left-node, right-node}
 use Rattle.calculus.specs.Satisfaction.{Pool, Database, Env, bind, value, values, Sat, known}
 use Rattle.calculus.specs.Satisfaction.Laws.{bind-other, known-record, known-constant, known-conj-left, known-conj-right}
-use Rattle.calculus.specs.Propagation.{exists-free, cp}
+use Rattle.calculus.specs.Propagation.{exists-if-free, cp}
 use Rattle.calculus.specs.Substitution.{subst-for}
-use Rattle.calculus.specs.Generation.{Ap, ap-rel, ap-eq, Gen, gen-false, gen-atom, gen-neg-neg, gen-neg-disj, gen-neg-conj, gen-disj, gen-conj-left, gen-conj-right, gen-conj-eq, gen-conj-eq′, gen-exists, Generated}
+use Rattle.calculus.specs.Generation.{Ap, ap-rel, ap-eq, GenBy, gen-false, gen-atom, gen-neg-neg, gen-neg-disj, gen-neg-conj, gen-disj, gen-conj-left, gen-conj-right, gen-conj-eq, gen-conj-eq′, gen-exists, Generated}
 use Rattle.calculus.specs.Generation.Laws.{Equates, origin, sat-neg-conj, sat-neg-neg}
-use Rattle.calculus.specs.Generators.{Leaves, leaf-where, first, both, equated, through, plain, denied, is-none, GenAt, at-false, at-atom, at-neg-neg, at-neg-disj-left, at-neg-disj-right, at-neg-conj, at-disj, at-conj-left, at-conj-right, at-conj-eq, at-conj-eq′, at-exists, Answered, generated-by, not-generated, AtNode, Source, SourceAmong}
+use Rattle.calculus.specs.Generators.{Leaves, leaf-where, first, both, equated, through, plain, denied, is-none, GenAt, at-false, at-atom, at-neg-neg, at-neg-disj-left, at-neg-disj-right, at-neg-conj, at-disj, at-conj-left, at-conj-right, at-conj-eq, at-conj-eq′, at-exists, LeavesRight, generated-by, not-generated, AtNode, Source, SourceAmong}
 
 -- ---- the 000 half of GenAt is 000's gen
 
-pub gen-at-gen : {x n : ℕ} {φ : Fmla} {G : List Fmla} {L : List ℕ} → GenAt x φ n G L → Gen x φ G
+pub gen-at-gen : {x n : ℕ} {φ : Fmla} {G : List Fmla} {L : List ℕ} → GenAt x φ n G L → GenBy x φ G
 gen-at-gen at-false = gen-false
 gen-at-gen (at-atom a i) = gen-atom a i
 gen-at-gen (at-neg-neg d) = gen-neg-neg (gen-at-gen d)
@@ -134,7 +134,7 @@ abbrev pub HasLeaves : ℕ → Fmla → ℕ → List Fmla → Type 0
 HasLeaves x φ n G = (L : List ℕ) × GenAt x φ n G L
 
 mutual
-  pub gen-gen-at : (φ : Fmla) (n x : ℕ) (G : List Fmla) → Gen x φ G → HasLeaves x φ n G
+  pub gen-gen-at : (φ : Fmla) (n x : ℕ) (G : List Fmla) → GenBy x φ G → HasLeaves x φ n G
   gen-gen-at (truth true) n x G d = absurd (origin d)
   gen-gen-at (truth false) n x G d = subst⁻¹ (HasLeaves x (truth false) n) (origin d) ([], at-false)
   gen-gen-at (rel r ts) n x G d = subst⁻¹ (HasLeaves x (rel r ts) n) (origin d .1) (n ∷ [], at-atom ap-rel (origin d .0))
@@ -156,7 +156,7 @@ mutual
       let r = gen-gen-at φ n x (o .1 .0) (o .1 .1) in
       subst⁻¹ (HasLeaves x (exists z φ) n) (o .2) (r .0, at-exists (o .0) (r .1))
 
-  pub gen-gen-at-neg : (φ : Fmla) (n x : ℕ) (G : List Fmla) → Gen x (neg φ) G → HasLeaves x (neg φ) n G
+  pub gen-gen-at-neg : (φ : Fmla) (n x : ℕ) (G : List Fmla) → GenBy x (neg φ) G → HasLeaves x (neg φ) n G
   gen-gen-at-neg (truth b) n x G d = absurd (origin d)
   gen-gen-at-neg (rel r ts) n x G d = absurd (origin d)
   gen-gen-at-neg (eq y t) n x G d = absurd (origin d)
@@ -175,84 +175,84 @@ mutual
 
 -- ---- the order's answers are right
 
-leaf-answered : {x n : ℕ} {φ : Fmla} {b : Bool} → Ap φ → (Generated x φ → In x (fv φ)) → Reflects (In x (fv φ)) b → Answered x φ n (leaf-where b n)
-leaf-answered {φ = φ} a f (holds i) = generated-by (φ ∷ []) (at-atom a i)
-leaf-answered a f (fails m) = not-generated (λ g. m (f g))
+leaf-right : {x n : ℕ} {φ : Fmla} {b : Bool} → Ap φ → (Generated x φ → In x (fv φ)) → Reflects (In x (fv φ)) b → LeavesRight x φ n (leaf-where b n)
+leaf-right {φ = φ} a f (holds i) = generated-by (φ ∷ []) (at-atom a i)
+leaf-right a f (fails m) = not-generated (λ g. m (f g))
 
 -- By equality: as φ generates the other variable.
-through-answered : {x n : ℕ} {φ ψ : Fmla} {o : Option ℕ} (f : ℕ → Leaves) → EquatedView ψ x o → ((y : ℕ) → Answered y φ n (f y)) → ¬ Generated x φ → ¬ Generated x ψ → Answered x (conj φ ψ) n (through o f)
-through-answered {x} {n} {φ} {ψ} f (equates {y} m q) a p r = go (a y)
+through-right : {x n : ℕ} {φ ψ : Fmla} {o : Option ℕ} (f : ℕ → Leaves) → EquatedView ψ x o → ((y : ℕ) → LeavesRight y φ n (f y)) → ¬ Generated x φ → ¬ Generated x ψ → LeavesRight x (conj φ ψ) n (through o f)
+through-right {x} {n} {φ} {ψ} f (equates {y} m q) a p r = go (a y)
   where
     none-else : ¬ Generated y φ → ¬ Generated x (conj φ ψ)
     none-else k g = ⊎-elim (λ d. p (g .0, d)) (⊎-elim (λ d. r (g .0, d)) (λ t. k (subst (λ u. Generated u φ) (sym (equates-one m q (t .1))) (t .2)))) (origin (g .1))
 
-    go : {l : Leaves} → Answered y φ n l → Answered x (conj φ ψ) n l
+    go : {l : Leaves} → LeavesRight y φ n l → LeavesRight x (conj φ ψ) n l
     go (generated-by G d) = generated-by (map (λ χ. cp (subst-for χ y x)) G) (at-equates q d)
     go (not-generated k) = not-generated (none-else k)
-through-answered {x} {n} {φ} {ψ} f (equates-none m) a p r = not-generated (λ g. ⊎-elim (λ d. p (g .0, d)) (⊎-elim (λ d. r (g .0, d)) (λ t. other (t .0) (t .1) (t .2))) (origin (g .1)))
+through-right {x} {n} {φ} {ψ} f (equates-none m) a p r = not-generated (λ g. ⊎-elim (λ d. p (g .0, d)) (⊎-elim (λ d. r (g .0, d)) (λ t. other (t .0) (t .1) (t .2))) (origin (g .1)))
   where
     other : (y : ℕ) → Equates ψ x y → ¬ Generated y φ
     other y q g = ⊎-elim (λ e. p (subst⁻¹ (λ u. Generated u φ) e g)) (λ k. m y k q) (decided (reflects-eqb x y))
 
-conj-answered : {x n : ℕ} {φ ψ : Fmla} {a b c : Leaves} → Answered x φ n a → Answered x ψ (n + size φ) b → (¬ Generated x φ → ¬ Generated x ψ → Answered x (conj φ ψ) n c) → Answered x (conj φ ψ) n (first a (first b c))
-conj-answered (generated-by G d) r k = generated-by G (at-conj-left d)
-conj-answered (not-generated p) (generated-by G d) k = generated-by G (at-conj-right d)
-conj-answered (not-generated p) (not-generated q) k = k p q
+conj-right : {x n : ℕ} {φ ψ : Fmla} {a b c : Leaves} → LeavesRight x φ n a → LeavesRight x ψ (n + size φ) b → (¬ Generated x φ → ¬ Generated x ψ → LeavesRight x (conj φ ψ) n c) → LeavesRight x (conj φ ψ) n (first a (first b c))
+conj-right (generated-by G d) r k = generated-by G (at-conj-left d)
+conj-right (not-generated p) (generated-by G d) k = generated-by G (at-conj-right d)
+conj-right (not-generated p) (not-generated q) k = k p q
 
-disj-answered : {x n : ℕ} {φ ψ : Fmla} {a b : Leaves} → Answered x φ n a → Answered x ψ (n + size φ) b → Answered x (disj φ ψ) n (both a b)
-disj-answered (generated-by G d) (generated-by H e) = generated-by (G ++ H) (at-disj d e)
-disj-answered (generated-by G d) (not-generated q) = not-generated (λ g. q (origin (g .1) .1))
-disj-answered (not-generated p) (generated-by H e) = not-generated (λ g. p (origin (g .1) .0))
-disj-answered (not-generated p) (not-generated q) = not-generated (λ g. p (origin (g .1) .0))
+disj-right : {x n : ℕ} {φ ψ : Fmla} {a b : Leaves} → LeavesRight x φ n a → LeavesRight x ψ (n + size φ) b → LeavesRight x (disj φ ψ) n (both a b)
+disj-right (generated-by G d) (generated-by H e) = generated-by (G ++ H) (at-disj d e)
+disj-right (generated-by G d) (not-generated q) = not-generated (λ g. q (origin (g .1) .1))
+disj-right (not-generated p) (generated-by H e) = not-generated (λ g. p (origin (g .1) .0))
+disj-right (not-generated p) (not-generated q) = not-generated (λ g. p (origin (g .1) .0))
 
-neg-conj-answered : {x n : ℕ} {φ ψ : Fmla} {a b : Leaves} → Answered x (neg φ) n a → Answered x (neg ψ) (n + size φ) b → Answered x (neg (conj φ ψ)) n (both a b)
-neg-conj-answered (generated-by G d) (generated-by H e) = generated-by (G ++ H) (at-neg-conj d e)
-neg-conj-answered (generated-by G d) (not-generated q) = not-generated (λ g. q (origin (origin (g .1)) .1))
-neg-conj-answered (not-generated p) (generated-by H e) = not-generated (λ g. p (origin (origin (g .1)) .0))
-neg-conj-answered (not-generated p) (not-generated q) = not-generated (λ g. p (origin (origin (g .1)) .0))
+neg-conj-right : {x n : ℕ} {φ ψ : Fmla} {a b : Leaves} → LeavesRight x (neg φ) n a → LeavesRight x (neg ψ) (n + size φ) b → LeavesRight x (neg (conj φ ψ)) n (both a b)
+neg-conj-right (generated-by G d) (generated-by H e) = generated-by (G ++ H) (at-neg-conj d e)
+neg-conj-right (generated-by G d) (not-generated q) = not-generated (λ g. q (origin (origin (g .1)) .1))
+neg-conj-right (not-generated p) (generated-by H e) = not-generated (λ g. p (origin (origin (g .1)) .0))
+neg-conj-right (not-generated p) (not-generated q) = not-generated (λ g. p (origin (origin (g .1)) .0))
 
-neg-disj-answered : {x n : ℕ} {φ ψ : Fmla} {a b : Leaves} → Answered x (neg φ) n a → Answered x (neg ψ) (n + size φ) b → Answered x (neg (disj φ ψ)) n (first a b)
-neg-disj-answered (generated-by G d) r = generated-by G (at-neg-disj-left d)
-neg-disj-answered (not-generated p) (generated-by G d) = generated-by G (at-neg-disj-right d)
-neg-disj-answered {x} {φ = φ} {ψ} (not-generated p) (not-generated q) =
+neg-disj-right : {x n : ℕ} {φ ψ : Fmla} {a b : Leaves} → LeavesRight x (neg φ) n a → LeavesRight x (neg ψ) (n + size φ) b → LeavesRight x (neg (disj φ ψ)) n (first a b)
+neg-disj-right (generated-by G d) r = generated-by G (at-neg-disj-left d)
+neg-disj-right (not-generated p) (generated-by G d) = generated-by G (at-neg-disj-right d)
+neg-disj-right {x} {φ = φ} {ψ} (not-generated p) (not-generated q) =
     not-generated (λ g. ⊎-elim (λ d. p (g .0, d)) (⊎-elim (λ d. q (g .0, d)) (λ t. equates-var-eq (neg ψ) x (t .0) (t .1))) (origin (origin (g .1))))
 
-neg-neg-answered : {x n : ℕ} {φ : Fmla} {a : Leaves} → Answered x φ n a → Answered x (neg (neg φ)) n a
-neg-neg-answered (generated-by G d) = generated-by G (at-neg-neg d)
-neg-neg-answered (not-generated p) = not-generated (λ g. p (g .0, origin (g .1)))
+neg-neg-right : {x n : ℕ} {φ : Fmla} {a : Leaves} → LeavesRight x φ n a → LeavesRight x (neg (neg φ)) n a
+neg-neg-right (generated-by G d) = generated-by G (at-neg-neg d)
+neg-neg-right (not-generated p) = not-generated (λ g. p (g .0, origin (g .1)))
 
-exists-answered : {x z n : ℕ} {φ : Fmla} {a : Leaves} {b : Bool} → Reflects (x ≡ z) b → Answered x φ n a → Answered x (exists z φ) n (cond b none a)
-exists-answered (holds e) r = not-generated (λ g. origin (g .1) .0 e)
-exists-answered {z = z} (fails m) (generated-by G d) = generated-by (map (exists-free z) G) (at-exists m d)
-exists-answered (fails m) (not-generated p) = not-generated (λ g. p (origin (g .1) .1))
+exists-right : {x z n : ℕ} {φ : Fmla} {a : Leaves} {b : Bool} → Reflects (x ≡ z) b → LeavesRight x φ n a → LeavesRight x (exists z φ) n (cond b none a)
+exists-right (holds e) r = not-generated (λ g. origin (g .1) .0 e)
+exists-right {z = z} (fails m) (generated-by G d) = generated-by (map (exists-if-free z) G) (at-exists m d)
+exists-right (fails m) (not-generated p) = not-generated (λ g. p (origin (g .1) .1))
 
 -- Document 01's order is right at every node, judged plainly or as denied.
 mutual
-  pub plain-answered : (φ : Fmla) (n x : ℕ) → Answered x φ n (plain φ n x)
-  plain-answered (truth true) n x = not-generated (λ g. origin (g .1))
-  plain-answered (truth false) n x = generated-by [] at-false
-  plain-answered (rel r ts) n x = leaf-answered ap-rel (λ g. origin (g .1) .0) (reflects-member x (fv-terms ts))
-  plain-answered (eq y (var z)) n x = not-generated (λ g. origin (g .1))
-  plain-answered (eq y (con p)) n x = leaf-answered ap-eq (λ g. here (origin (g .1) .0)) (reflects-map here in-one (reflects-eqb x y))
-  plain-answered (neg φ) n x = denied-answered φ n x
-  plain-answered (conj φ ψ) n x = conj-answered (plain-answered φ n x) (plain-answered ψ (n + size φ) x) (through-answered (λ y. plain φ n y) (equated-view ψ x) (λ y. plain-answered φ n y))
-  plain-answered (disj φ ψ) n x = disj-answered (plain-answered φ n x) (plain-answered ψ (n + size φ) x)
-  plain-answered (exists z φ) n x = exists-answered (reflects-eqb x z) (plain-answered φ n x)
+  pub plain-right : (φ : Fmla) (n x : ℕ) → LeavesRight x φ n (plain φ n x)
+  plain-right (truth true) n x = not-generated (λ g. origin (g .1))
+  plain-right (truth false) n x = generated-by [] at-false
+  plain-right (rel r ts) n x = leaf-right ap-rel (λ g. origin (g .1) .0) (reflects-member x (fv-terms ts))
+  plain-right (eq y (var z)) n x = not-generated (λ g. origin (g .1))
+  plain-right (eq y (con p)) n x = leaf-right ap-eq (λ g. here (origin (g .1) .0)) (reflects-map here in-one (reflects-eqb x y))
+  plain-right (neg φ) n x = denied-right φ n x
+  plain-right (conj φ ψ) n x = conj-right (plain-right φ n x) (plain-right ψ (n + size φ) x) (through-right (λ y. plain φ n y) (equated-view ψ x) (λ y. plain-right φ n y))
+  plain-right (disj φ ψ) n x = disj-right (plain-right φ n x) (plain-right ψ (n + size φ) x)
+  plain-right (exists z φ) n x = exists-right (reflects-eqb x z) (plain-right φ n x)
 
-  pub denied-answered : (φ : Fmla) (n x : ℕ) → Answered x (neg φ) n (denied φ n x)
-  denied-answered (truth b) n x = not-generated (λ g. origin (g .1))
-  denied-answered (rel r ts) n x = not-generated (λ g. origin (g .1))
-  denied-answered (eq y t) n x = not-generated (λ g. origin (g .1))
-  denied-answered (neg φ) n x = neg-neg-answered (plain-answered φ n x)
-  denied-answered (conj φ ψ) n x = neg-conj-answered (denied-answered φ n x) (denied-answered ψ (n + size φ) x)
-  denied-answered (disj φ ψ) n x = neg-disj-answered (denied-answered φ n x) (denied-answered ψ (n + size φ) x)
-  denied-answered (exists z φ) n x = not-generated (λ g. origin (g .1))
+  pub denied-right : (φ : Fmla) (n x : ℕ) → LeavesRight x (neg φ) n (denied φ n x)
+  denied-right (truth b) n x = not-generated (λ g. origin (g .1))
+  denied-right (rel r ts) n x = not-generated (λ g. origin (g .1))
+  denied-right (eq y t) n x = not-generated (λ g. origin (g .1))
+  denied-right (neg φ) n x = neg-neg-right (plain-right φ n x)
+  denied-right (conj φ ψ) n x = neg-conj-right (denied-right φ n x) (denied-right ψ (n + size φ) x)
+  denied-right (disj φ ψ) n x = neg-disj-right (denied-right φ n x) (denied-right ψ (n + size φ) x)
+  denied-right (exists z φ) n x = not-generated (λ g. origin (g .1))
 
 -- "none" is answered exactly where 000 allows no set.
 pub reflects-none : (φ : Fmla) (n x : ℕ) → Reflects (¬ Generated x φ) (is-none (plain φ n x))
-reflects-none φ n x = go (plain-answered φ n x)
+reflects-none φ n x = go (plain-right φ n x)
   where
-    go : {l : Leaves} → Answered x φ n l → Reflects (¬ Generated x φ) (is-none l)
+    go : {l : Leaves} → LeavesRight x φ n l → Reflects (¬ Generated x φ) (is-none l)
     go (generated-by G d) = fails (λ m. m (G, gen-at-gen d))
     go (not-generated p) = holds p
 
@@ -261,9 +261,9 @@ pub none-anywhere : (φ : Fmla) (m n x : ℕ) → is-none (plain φ m x) ≡ is-
 none-anywhere φ m n x = reflects-same (reflects-none φ m x) (reflects-none φ n x) (λ g. g) (λ g. g)
 
 pub generated-decided : (x : ℕ) (φ : Fmla) → Generated x φ ⊎ (¬ Generated x φ)
-generated-decided x φ = go (plain-answered φ 0 x)
+generated-decided x φ = go (plain-right φ 0 x)
   where
-    go : {l : Leaves} → Answered x φ 0 l → Generated x φ ⊎ (¬ Generated x φ)
+    go : {l : Leaves} → LeavesRight x φ 0 l → Generated x φ ⊎ (¬ Generated x φ)
     go (generated-by G d) = inl (G, gen-at-gen d)
     go (not-generated p) = inr p
 
@@ -347,7 +347,7 @@ leaves-generators (at-conj-left d) = leaves-generators d
 leaves-generators (at-conj-right d) = leaves-generators d
 leaves-generators (at-conj-eq {x} {y} {G = G} d) = length-map G (λ χ. cp (subst-for χ y x)) ∙ leaves-generators d
 leaves-generators (at-conj-eq′ {x} {y} {G = G} d) = length-map G (λ χ. cp (subst-for χ y x)) ∙ leaves-generators d
-leaves-generators (at-exists {y = y} {G = G} m d) = length-map G (exists-free y) ∙ leaves-generators d
+leaves-generators (at-exists {y = y} {G = G} m d) = length-map G (exists-if-free y) ∙ leaves-generators d
 
 -- ---- where a generated variable has its value from
 
@@ -439,8 +439,8 @@ module _ (pool : Pool) (D : Database) where
 
   -- A generated variable of a satisfied formula has a known value.
   pub generated-known : (x : ℕ) (φ : Fmla) → Generated x φ → (σ : Env) → Sat pool D φ σ → In (σ x) (known pool D φ)
-  generated-known x φ g σ s = go (plain-answered φ 0 x)
+  generated-known x φ g σ s = go (plain-right φ 0 x)
     where
-      go : {l : Leaves} → Answered x φ 0 l → In (σ x) (known pool D φ)
+      go : {l : Leaves} → LeavesRight x φ 0 l → In (σ x) (known pool D φ)
       go (generated-by G d) = let a = leaf-value d σ s in node-known φ 0 (a .0) (a .2 .0) (a .2 .1) (σ x) (source-known (a .2 .0) (σ x) (a .2 .2))
       go (not-generated n) = absurd (n g)

@@ -13,7 +13,7 @@ use Rattle.calculus.specs.Reflects.{Reflects, holds, fails, reflects-tru
 use Rattle.calculus.specs.Formula.{Term, var, con, Fmla, truth, rel, eq, neg, conj, disj, exists, fv, gather, relations, places, places-term, size}
 use Rattle.calculus.specs.Satisfaction.{Pool, Database, Env, bind, Sat, known}
 use Rattle.calculus.specs.Satisfaction.Laws.{sat-agree, bind-other, known-mono}
-use Rattle.calculus.specs.Propagation.{exists-free, is-truth, truth-of, cp-eq, cp-neg, cp-conj, cp-disj, cp, Nocp, Propagated}
+use Rattle.calculus.specs.Propagation.{exists-if-free, is-truth, truth-of, cp-eq, cp-neg, cp-conj, cp-disj, cp, Nocp, Propagated}
 
 -- ---- views
 
@@ -84,7 +84,7 @@ pub join-neither : (u : Bool) (φ ψ : Fmla) → is-truth φ ≡ false → is-tr
 join-neither true φ ψ e f = λ i. cond (e i) (cond (truth-of φ) ψ (truth false)) (cond (f i) (cond (truth-of ψ) φ (truth false)) (conj φ ψ))
 join-neither false φ ψ e f = λ i. cond (e i) (cond (truth-of φ) (truth true) ψ) (cond (f i) (cond (truth-of ψ) (truth true) φ) (disj φ ψ))
 
-pub exists-kept : (z : ℕ) (φ : Fmla) → In z (fv φ) → exists-free z φ ≡ exists z φ
+pub exists-kept : (z : ℕ) (φ : Fmla) → In z (fv φ) → exists-if-free z φ ≡ exists z φ
 exists-kept z φ i = cond-is (exists z φ) φ (reflects-true (reflects-member z (fv φ)) i)
 
 pub neg-view : (φ : Fmla) → NegView φ (cp-neg φ)
@@ -120,7 +120,7 @@ join-view u φ ψ = go (truth-view φ) (truth-view ψ)
     go (no-truth e) (a-truth b) = right u b e
     go (no-truth {φ} e) (no-truth {φ = ψ} f) = subst⁻¹ (JoinView u φ ψ) (join-neither u φ ψ e f) (neither e f)
 
-pub exists-view : (z : ℕ) (φ : Fmla) → ExistsView z φ (exists-free z φ)
+pub exists-view : (z : ℕ) (φ : Fmla) → ExistsView z φ (exists-if-free z φ)
 exists-view z φ = go (reflects-member z (fv φ))
   where
     go : {b : Bool} → Reflects (In z (fv φ)) b → ExistsView z φ (cond b (exists z φ) φ)
@@ -155,7 +155,7 @@ module _ (pool : Pool) (D : Database) where
       same v = sat-agree pool D φ (bind z v σ) σ (λ x i. bind-other z v σ x (λ e. n (subst (λ u. In u (fv φ)) e i)))
 
   -- 000: sat_exists.
-  pub exists-sat : (z : ℕ) (φ : Fmla) (σ : Env) → Sat pool D (exists-free z φ) σ ↔ Sat pool D (exists z φ) σ
+  pub exists-sat : (z : ℕ) (φ : Fmla) (σ : Env) → Sat pool D (exists-if-free z φ) σ ↔ Sat pool D (exists z φ) σ
   exists-sat z φ σ = go (exists-view z φ)
     where
       go : {χ : Fmla} → ExistsView z φ χ → Sat pool D χ σ ↔ Sat pool D (exists z φ) σ
@@ -281,7 +281,7 @@ nocp-cp (eq x (var y)) n = cond-is (truth true) (eq x (var y)) (reflects-false (
 nocp-cp (neg φ) n = ap cp-neg (nocp-cp φ n) ∙ cp-neg-other φ (nocp-no-truth φ n)
 nocp-cp (conj φ ψ) n = (λ i. cp-conj (nocp-cp φ (n .0) i) (nocp-cp ψ (n .1) i)) ∙ join-neither true φ ψ (nocp-no-truth φ (n .0)) (nocp-no-truth ψ (n .1))
 nocp-cp (disj φ ψ) n = (λ i. cp-disj (nocp-cp φ (n .0) i) (nocp-cp ψ (n .1) i)) ∙ join-neither false φ ψ (nocp-no-truth φ (n .0)) (nocp-no-truth ψ (n .1))
-nocp-cp (exists z φ) n = ap (exists-free z) (nocp-cp φ (n .1)) ∙ exists-kept z φ (n .0)
+nocp-cp (exists z φ) n = ap (exists-if-free z) (nocp-cp φ (n .1)) ∙ exists-kept z φ (n .0)
 
 -- The number of a term.
 abbrev number : Term → ℕ

@@ -10,10 +10,10 @@ use Rattle.calculus.specs.Sets.{here}
 use Rattle.calculus.specs.Reflects.{Reflects, holds, fails, reflects-eqb}
 use Rattle.calculus.specs.Formula.{Term, var, con, Fmla, truth, rel, eq, neg, conj, disj, exists, size, Node, node, nodes}
 use Rattle.calculus.specs.Formula.Laws.{Has, has-left, has-right, from-one, from-append, joined, node-shift}
-use Rattle.calculus.specs.Propagation.{exists-free, is-truth, cp-eq, cp-neg, cp-conj, cp}
+use Rattle.calculus.specs.Propagation.{exists-if-free, is-truth, cp-eq, cp-neg, cp-conj, cp}
 use Rattle.calculus.specs.Propagation.Laws.{TruthView, a-truth, no-truth, truth-view, NegView, neg-truth, neg-other, join, JoinView, left-unit, left-zero, right-unit, right-zero, neither, ExistsView, kept, dropped, cp-neg-other, cp-join, join-unit-left, join-zero-left, join-unit-right, join-zero-right, join-neither, neg-view, join-view, exists-view, fv-cp}
 use Rattle.calculus.specs.Substitution.{subst-for}
-use Rattle.calculus.specs.Generation.{ap-rel, ap-eq, Gen, gen-false, gen-atom, gen-neg-neg, gen-neg-disj, gen-neg-conj, gen-disj, gen-conj-left, gen-conj-right, gen-conj-eq, gen-conj-eq′, gen-exists, Generated}
+use Rattle.calculus.specs.Generation.{ap-rel, ap-eq, GenBy, gen-false, gen-atom, gen-neg-neg, gen-neg-disj, gen-neg-conj, gen-disj, gen-conj-left, gen-conj-right, gen-conj-eq, gen-conj-eq′, gen-exists, Generated}
 use Rattle.calculus.specs.Generation.Laws.{origin}
 use Rattle.calculus.specs.Generators.Laws.{generated-decided}
 use Rattle.calculus.specs.SafeRange.{HasNode, Nongen, Rrb, Sr, SafeRange}
@@ -82,7 +82,7 @@ module _ {x : ℕ} where
   conj-right-generated (neither e f) g = (g .0, gen-conj-right (g .1))
 
   exists-generated : {z : ℕ} {φ χ : Fmla} → ExistsView z φ χ → x ≢ z → Generated x φ → Generated x χ
-  exists-generated {z} (kept i) n g = (map (exists-free z) (g .0), gen-exists n (g .1))
+  exists-generated {z} (kept i) n g = (map (exists-if-free z) (g .0), gen-exists n (g .1))
   exists-generated (dropped m) n g = g
 
   -- With a side χ that is no truth value, a rule that gives x in the and where y is in its left side holds of the propagated and.
@@ -113,7 +113,7 @@ conj-eq′-generated x y φ g = go (reflects-eqb y x)
     go (fails n) = conj-other-generated y (eq y (var x)) φ refl (λ α h. (map (λ χ. cp (subst-for χ y x)) (h .0), gen-conj-eq′ (h .1))) g
 
 -- 000: gen_Gen_cp.
-pub generated-cp : {x : ℕ} {φ : Fmla} {G : List Fmla} → Gen x φ G → Generated x (cp φ)
+pub generated-cp : {x : ℕ} {φ : Fmla} {G : List Fmla} → GenBy x φ G → Generated x (cp φ)
 generated-cp gen-false = in-false
 generated-cp (gen-atom (ap-rel {r} {ts}) i) = (rel r ts ∷ [], gen-atom ap-rel i)
 generated-cp (gen-atom (ap-eq {x = y} {p}) i) = (eq y (con p) ∷ [], gen-atom ap-eq i)

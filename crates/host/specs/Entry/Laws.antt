@@ -28,7 +28,7 @@ use Rattle.answer.specs.Listing.{numbers, overlay}
 use Rattle.answer.specs.Listing.Laws.{overlay-append, overlay-front}
 use Rattle.answer.specs.Listing.Rows.{numbers-width}
 use Rattle.packed.specs.declared.Listing.{Listing}
-use Rattle.packed.specs.Packed.{widths-in, query-in, query-read, input-checks, judged-reply, judged-of, answers-in, list-checks, listing-of}
+use Rattle.packed.specs.Packed.{widths-in, query-in, query-read, input-checks, judged-reply, judged-of, result-in, list-checks, listing-of}
 use Rattle.packed.specs.Packed.Laws.{query-accepted, input-few}
 use Rattle.packed.specs.Packed.Told.{columns-in, Told, told-refused, told-done, told-columns, told-endless, told-rows}
 use Rattle.host.specs.Entry.{refusal, code-endless, form-bytes, verdict-bytes, verdict-reply, verdict-entry, room-in, row-bytes, answer-reply, answer-entry, Few, Writable}
@@ -121,14 +121,14 @@ room-fits n = go (reflects-ltb 4096 (n / 4))
     go (fails l) = (omega (arith, l), omega arith)
 
 module _ (bs out buffer after : List ℕ) (l : Listing) (len : length buffer ≡ room-in (length out)) (e : (l, after) ≡ listing-of bs buffer) where
-  by-cause : (a : Answer) → first-cause (list-checks bs (length buffer)) ≡ a → answer-reply a (answers-in bs) out ≡ answer-entry bs out
-  by-cause a c = ap (λ b. answer-reply b (answers-in bs) out) (sym c ∙ ap (λ k. first-cause (list-checks bs k)) len)
+  by-cause : (a : Answer) → first-cause (list-checks bs (length buffer)) ≡ a → answer-reply a (result-in bs) out ≡ answer-entry bs out
+  by-cause a c = ap (λ b. answer-reply b (result-in bs) out) (sym c ∙ ap (λ k. first-cause (list-checks bs k)) len)
 
   pub answer-refused : (n p r : ℕ) → l .answer ≡ Refused n p → r ≡ refusal n p → (r, out) ≡ answer-entry bs out
   answer-refused n p r a f = ap (λ k. (k, out)) f ∙ by-cause (Refused n p) (told-refused bs buffer l after e n p a .0)
 
   module _ (a : l .answer ≡ Done) where
-    worked : answer-reply Done (answers-in bs) out ≡ answer-entry bs out
+    worked : answer-reply Done (result-in bs) out ≡ answer-entry bs out
     worked = by-cause Done (told-done bs buffer l after e a)
 
     pub answer-endless : l .endless ≡ true → (code-endless, out) ≡ answer-entry bs out

@@ -13,13 +13,13 @@ use Rattle.causes.specs.Causes.{first-cause}
 use Rattle.answer.specs.Listing.{numbers, cut}
 use Rattle.answer.specs.Listing.Cut.{cut-numbers}
 use Rattle.packed.specs.declared.Listing.{Listing}
-use Rattle.packed.specs.Packed.{query-read, answers-in, list-checks, listing-of}
+use Rattle.packed.specs.Packed.{query-read, result-in, list-checks, listing-of}
 use Rattle.packed.specs.Packed.Told.{columns-in, Told, told-refused, told-done, told-safe, told-columns, told-few-columns, told-endless, told-rows}
 use Rattle.lines.specs.Text.{room, line, word-refused, word-row, word-rows, word-endless, answer-text, head-text, reply-text, text-of}
 
 module _ (bs buffer : List ℕ) (h : length buffer ≡ room) (l : Listing) (after : List ℕ) (e : (l, after) ≡ listing-of bs buffer) where
-  outcome : (a : Answer) → first-cause (list-checks bs (length buffer)) ≡ a → text-of bs ≡ reply-text a (query-read bs) (answers-in bs)
-  outcome a c = ap (λ b. reply-text b (query-read bs) (answers-in bs)) (ap (λ n. first-cause (list-checks bs n)) (sym h) ∙ c)
+  outcome : (a : Answer) → first-cause (list-checks bs (length buffer)) ≡ a → text-of bs ≡ reply-text a (query-read bs) (result-in bs)
+  outcome a c = ap (λ b. reply-text b (query-read bs) (result-in bs)) (ap (λ n. first-cause (list-checks bs n)) (sym h) ∙ c)
 
   pub text-refused : (n p : ℕ) → l .answer ≡ Refused n p → text-of bs ≡ line word-refused (n ∷ p ∷ [])
   text-refused n p g = outcome (Refused n p) (told-refused bs buffer l after e n p g .0)
@@ -38,8 +38,8 @@ module _ (bs buffer : List ℕ) (h : length buffer ≡ room) (l : Listing) (afte
     pub few-columns : l .columns .count ≤ 4
     few-columns = subst⁻¹ (λ n. n ≤ 4) count-is (told-few-columns bs buffer l after e g)
 
-    text-done : text-of bs ≡ front ++ answer-text (answers-in bs)
-    text-done = outcome Done (told-done bs buffer l after e g) ∙ sym (λ i. head-text (told-safe bs buffer l after e g i) (variables-are i) ++ answer-text (answers-in bs))
+    text-done : text-of bs ≡ front ++ answer-text (result-in bs)
+    text-done = outcome Done (told-done bs buffer l after e g) ∙ sym (λ i. head-text (told-safe bs buffer l after e g i) (variables-are i) ++ answer-text (result-in bs))
 
     pub text-endless : l .endless ≡ true → text-of bs ≡ front ++ line word-endless []
     text-endless t = text-done ∙ ap (λ f. front ++ answer-text f) (told-endless bs buffer l after e g t .0)

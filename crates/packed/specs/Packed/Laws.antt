@@ -9,7 +9,7 @@ use lib.Dec.{T, leb}
 use Rattle.calculus.specs.Order.{insert}
 use Rattle.calculus.specs.Reflects.{reflects, confirmed-by, reflects-and, reflects-leb, reflects-T, reflects-true}
 use Rattle.calculus.specs.Generators.{columns, verdict, safe}
-use Rattle.calculus.specs.Rows.{Answers, endless, listed}
+use Rattle.calculus.specs.Rows.{Result, endless, listed}
 use Rattle.causes.specs.declared.Answer.{Answer}
 use Rattle.causes.specs.declared.Answer.the-variants.{Done, Refused}
 use Rattle.causes.specs.Causes.{clear, met, Check, check, first-cause, when, widths-fit}
@@ -31,7 +31,7 @@ use Rattle.verdict.specs.Verdict.{judged, refusal as verdict-refusal}
 use Rattle.answer.specs.Reply.{row-checks, found-reply, Evaluable, evaluated}
 use Rattle.packed.specs.declared.Input.{Input}
 use Rattle.packed.specs.declared.Listing.{Listing}
-use Rattle.packed.specs.Packed.{widths-in, count-in, records-in, query-in, is-whole, record-checks, input-checks, store-in, query-read, refusal, input-reply, input-of, judged-reply, judged-of, answers-in, list-checks, declined, listing-with, listing-reply, listing-of}
+use Rattle.packed.specs.Packed.{widths-in, count-in, records-in, query-in, is-whole, record-checks, input-checks, store-in, query-read, refusal, input-reply, input-of, judged-reply, judged-of, result-in, list-checks, declined, listing-with, listing-reply, listing-of}
 
 -- ---- the parts
 
@@ -109,7 +109,7 @@ input-reply-answer Done bs = refl
 input-reply-answer (Refused n p) bs = refl
 
 -- The list's reply is what was found, with the verdict and the columns beside it.
-found-beside : (a : Answer) (q : Query) (found : Answers) (buffer : List ℕ) → let f = found-reply a found buffer in listing-reply a q found buffer ≡ (listing-with (f .0) (safe (verdict (formula q))) (columns-of (columns (formula q))), f .1)
+found-beside : (a : Answer) (q : Query) (found : Result) (buffer : List ℕ) → let f = found-reply a found buffer in listing-reply a q found buffer ≡ (listing-with (f .0) (safe (verdict (formula q))) (columns-of (columns (formula q))), f .1)
 found-beside Done q endless buffer = refl
 found-beside Done q (listed rows) buffer = refl
 found-beside (Refused n p) q found buffer = refl
@@ -122,8 +122,8 @@ module _ (bs : List ℕ) where
   judged-by : (a : Answer) → first-cause (input-checks bs) ≡ a → judged-of bs ≡ judged-reply a (query-read bs)
   judged-by a e = ap (λ b. judged-reply b (query-read bs)) e
 
-  pub listing-by-cause : (buffer : List ℕ) (a : Answer) → first-cause (list-checks bs (length buffer)) ≡ a → listing-of bs buffer ≡ listing-reply a (query-read bs) (answers-in bs) buffer
-  listing-by-cause buffer a e = ap (λ b. listing-reply b (query-read bs) (answers-in bs) buffer) e
+  pub listing-by-cause : (buffer : List ℕ) (a : Answer) → first-cause (list-checks bs (length buffer)) ≡ a → listing-of bs buffer ≡ listing-reply a (query-read bs) (result-in bs) buffer
+  listing-by-cause buffer a e = ap (λ b. listing-reply b (query-read bs) (result-in bs) buffer) e
 
   -- No cause is met: the query is read, with few columns, and the records fill a store.
   module _ (c : first-cause (input-checks bs) ≡ Done) where
@@ -177,7 +177,7 @@ module _ (bs : List ℕ) where
     pub listing-done : (buffer : List ℕ) → let i = input-of bs in let f = evaluated (i .store) (i .query) buffer in listing-of bs buffer ≡ (listing-with (f .0) (judged (i .query) .safe) (i .columns), f .1)
     listing-done buffer =
         listing-by-cause buffer (first-cause last) (then-done (input-checks bs) last unmet)
-        ∙ found-beside (first-cause last) (query-read bs) (answers-in bs) buffer
+        ∙ found-beside (first-cause last) (query-read bs) (result-in bs) buffer
         ∙ ap evaluated-with (sym input-done)
       where
         last : List Check

@@ -15,9 +15,9 @@ use Rattle.calculus.specs.Reflects.{confirmed-by}
 use Rattle.calculus.specs.Satisfaction.{Fact, fact, Database, constant, known}
 use Rattle.calculus.specs.Satisfaction.Laws.{known-means}
 use Rattle.calculus.specs.Generators.{columns, verdict, safe}
-use Rattle.calculus.specs.SafeRange.Answers.{fv-columns, safe-reflects, safe-values, safe-not-endless}
-use Rattle.calculus.specs.Rows.{Row, Answers, endless, listed}
-use Rattle.calculus.specs.Evaluation.Laws.{within-or-beyond, endless-iff, not-endless, answers-right}
+use Rattle.calculus.specs.SafeRange.Result.{fv-columns, safe-reflects, safe-values, safe-not-endless}
+use Rattle.calculus.specs.Rows.{Row, Result, endless, listed}
+use Rattle.calculus.specs.Evaluation.Laws.{within-or-beyond, endless-iff, not-endless, result-right}
 use Rattle.causes.specs.declared.Answer.the-variants.{Done}
 use Rattle.causes.specs.Causes.{first-cause}
 use Rattle.tables.specs.declared.Record.{Record}
@@ -28,7 +28,7 @@ use Rattle.query.specs.declared.Query.{Query}
 use Rattle.query.specs.Reading.{constants-of, pool, formula}
 use Rattle.query.specs.Accepted.Laws.{read-pool, word-fits, constant-fits}
 use Rattle.answer.specs.Reply.Right.{EndlessOver, RightOver, KnownTo}
-use Rattle.packed.specs.Packed.{widths-in, count-in, record-at, records-in, query-in, store-in, query-read, answers-in, input-checks}
+use Rattle.packed.specs.Packed.{widths-in, count-in, record-at, records-in, query-in, store-in, query-read, result-in, input-checks}
 use Rattle.packed.specs.Packed.Laws.{query-accepted, records-filled}
 
 -- The values of a fact.
@@ -43,18 +43,18 @@ within-pool (c ∷ cs) h (suc p) = within-pool cs (λ v i. h v (there i)) p
 
 module _ (bs : List ℕ) where
   -- What is answered is right: endless where infinitely many rows satisfy the query over the store's records, else all rows that do, each once, ascending.
-  pub answers-in-right : RightOver (store-in bs) (query-read bs) (answers-in bs)
-  answers-in-right = let q : Query = query-read bs in answers-right (pool q) (facts (store-in bs)) (formula q) (columns (formula q)) (fv-columns (formula q))
+  pub result-in-right : RightOver (store-in bs) (query-read bs) (result-in bs)
+  result-in-right = let q : Query = query-read bs in result-right (pool q) (facts (store-in bs)) (formula q) (columns (formula q)) (fv-columns (formula q))
 
   -- The facts that the store states are those of the input's records, in whatever order and however often they stand there.
   pub store-facts : first-cause (input-checks bs) ≡ Done → (f : Fact) → In f (facts (store-in bs)) ↔ ((r : Record) × In r (records-in bs) × (f ≡ fact-of (widths-in bs) r))
   store-facts e f = fill-facts (widths-in bs) (records-in bs) (records-filled bs e) f
 
   -- Where rows are listed, each value of each row is known, also of a query that isn't safe-range.
-  pub listed-known : (rows : List Row) → answers-in bs ≡ listed rows → (w : Row) → In w rows → (v : ℕ) → In v w → KnownTo (store-in bs) (query-read bs) v
+  pub listed-known : (rows : List Row) → result-in bs ≡ listed rows → (w : Row) → In w rows → (v : ℕ) → In v w → KnownTo (store-in bs) (query-read bs) v
   listed-known rows e w i v j =
       let q : Query = query-read bs in let D : Database = facts (store-in bs) in let cols : List ℕ = columns (formula q) in
-      let r = subst (RightOver (store-in bs) q) e answers-in-right in
+      let r = subst (RightOver (store-in bs) q) e result-in-right in
       ⊎-elim
       (λ h. known-means (pool q) D (formula q) v .0 (h v j))
       (λ b. absurd (not-endless (pool q) D (formula q) cols rows r (endless-iff (pool q) D (known (pool q) D (formula q)) (formula q) cols (λ u k. k) (fv-columns (formula q)) .1 (w, r .1 w .0 i, b))))
@@ -78,22 +78,22 @@ module _ (bs : List ℕ) where
         subst⁻¹ (λ cs. getD cs p 0 < 2 ^ 32) (read-pool (widths-in bs) (query-in bs) (query-accepted bs done))
         (within-pool (constants-of (query-in bs)) (constant-fits (query-in bs) (λ i. subst⁻¹ (λ b. b < 256) (getD-drop (18 + 17 * count-in bs) bs i 0) (small (18 + 17 * count-in bs + i)))) p)
 
-    pub listed-small : (rows : List Row) → answers-in bs ≡ listed rows → (w : Row) → In w rows → (v : ℕ) → In v w → v < 2 ^ 32
+    pub listed-small : (rows : List Row) → result-in bs ≡ listed rows → (w : Row) → In w rows → (v : ℕ) → In v w → v < 2 ^ 32
     listed-small rows e w i v j =
         ⊎-elim (λ s. fact-small (fact (s .0) (s .2 .0)) (s .2 .1) v (s .2 .2)) (λ s. subst⁻¹ (λ u. u < 2 ^ 32) (s .2) (constant-small (s .0))) (listed-known rows e w i v j)
 
   -- A query that is judged safe-range has its rows listed, and each value of each row is known.
   module _ (judged : safe (verdict (formula (query-read bs))) ≡ true) where
-    abbrev Listed : Answers → Type 0
+    abbrev Listed : Result → Type 0
     Listed a = (rows : List Row) × (a ≡ listed rows) × RightOver (store-in bs) (query-read bs) (listed rows) × ((w : Row) → In w rows → (v : ℕ) → In v w → KnownTo (store-in bs) (query-read bs) v)
 
-    pub safe-listed : Listed (answers-in bs)
-    safe-listed = go (answers-in bs) answers-in-right
+    pub safe-listed : Listed (result-in bs)
+    safe-listed = go (result-in bs) result-in-right
       where
         finite : ¬ EndlessOver (store-in bs) (query-read bs)
         finite = let q : Query = query-read bs in safe-not-endless (pool q) (facts (store-in bs)) (formula q) (confirmed-by judged (safe-reflects (formula q)))
 
-        go : (a : Answers) → RightOver (store-in bs) (query-read bs) a → Listed a
+        go : (a : Result) → RightOver (store-in bs) (query-read bs) a → Listed a
         go endless r = absurd (finite r)
         go (listed rows) r =
             let q : Query = query-read bs in

@@ -12,9 +12,9 @@ use Rattle.calculus.specs.Sets.{here, there}
 use Rattle.calculus.specs.Order.{Ascending}
 use Rattle.calculus.specs.Order.Laws.{ascending-at}
 use Rattle.calculus.specs.Generators.{columns, verdict, safe}
-use Rattle.calculus.specs.SafeRange.Answers.{fv-columns}
-use Rattle.calculus.specs.Rows.{Row, row-below, Answers, endless, listed, Right}
-use Rattle.calculus.specs.Evaluation.Laws.{answers-right}
+use Rattle.calculus.specs.SafeRange.Result.{fv-columns}
+use Rattle.calculus.specs.Rows.{Row, row-below, Result, endless, listed, Right}
+use Rattle.calculus.specs.Evaluation.Laws.{result-right}
 use Rattle.causes.specs.declared.Answer.{Answer}
 use Rattle.causes.specs.declared.Answer.the-variants.{Done, Refused}
 use Rattle.causes.specs.Causes.{Check, first-cause}
@@ -25,7 +25,7 @@ use Rattle.query.specs.Reading.{pool, columns-of, formula}
 use Rattle.answer.specs.Listing.{numbers, Width}
 use Rattle.answer.specs.Reply.{exceeds, row-checks, worked}
 use Rattle.packed.specs.declared.Listing.{Listing}
-use Rattle.packed.specs.Packed.{input-checks, store-in, query-read, answers-in, list-checks, listing-reply, listing-of}
+use Rattle.packed.specs.Packed.{input-checks, store-in, query-read, result-in, list-checks, listing-reply, listing-of}
 use Rattle.packed.specs.Packed.Laws.{input-few, listing-by-cause}
 
 -- The columns of the query of an input.
@@ -35,7 +35,7 @@ columns-in bs = columns (formula (query-read bs))
 -- The rows stand at the front of the list that was lent, which they fit into.
 pub record Told (bs buffer : List ℕ) (l : Listing) (after : List ℕ) : Type 0 where
   pub rows : List Row
-  pub answered : answers-in bs ≡ listed rows
+  pub answered : result-in bs ≡ listed rows
   pub counted : l .rows ≡ length rows
   pub written : after ≡ numbers rows ++ drop (length (numbers rows)) buffer
   pub wide : Width (length (columns-in bs)) rows
@@ -59,21 +59,21 @@ few-rows (suc k) n rows a w l = omega (arith, l, mul-suc (length rows) k)
 
 -- ---- the reply, by its answer
 
-reply-answer : (a : Answer) (q : Query) (found : Answers) (buffer : List ℕ) → listing-reply a q found buffer .0 .answer ≡ a
+reply-answer : (a : Answer) (q : Query) (found : Result) (buffer : List ℕ) → listing-reply a q found buffer .0 .answer ≡ a
 reply-answer Done q found buffer = refl
 reply-answer (Refused n p) q found buffer = refl
 
 -- Endless comes with the buffer as it was.
-worked-endless : (found : Answers) (buffer : List ℕ) → worked found buffer .0 .endless ≡ true → (found ≡ endless) × (worked found buffer .1 ≡ buffer)
+worked-endless : (found : Result) (buffer : List ℕ) → worked found buffer .0 .endless ≡ true → (found ≡ endless) × (worked found buffer .1 ≡ buffer)
 worked-endless endless buffer e = (refl, refl)
 worked-endless (listed rows) buffer e = absurd (true≢false (sym e))
 
 module _ (bs buffer : List ℕ) (l : Listing) (after : List ℕ) (e : (l, after) ≡ listing-of bs buffer) where
   -- The answer is the first cause met, and the reply is by it.
   cause-is : (c : Answer) → l .answer ≡ c → first-cause (list-checks bs (length buffer)) ≡ c
-  cause-is c a = sym (ap (λ r. r .0 .answer) e ∙ reply-answer (first-cause (list-checks bs (length buffer))) (query-read bs) (answers-in bs) buffer) ∙ a
+  cause-is c a = sym (ap (λ r. r .0 .answer) e ∙ reply-answer (first-cause (list-checks bs (length buffer))) (query-read bs) (result-in bs) buffer) ∙ a
 
-  reply-is : (c : Answer) → l .answer ≡ c → (l, after) ≡ listing-reply c (query-read bs) (answers-in bs) buffer
+  reply-is : (c : Answer) → l .answer ≡ c → (l, after) ≡ listing-reply c (query-read bs) (result-in bs) buffer
   reply-is c a = e ∙ listing-by-cause bs buffer c (cause-is c a)
 
   pub told-refused : (n p : ℕ) → l .answer ≡ Refused n p → (first-cause (list-checks bs (length buffer)) ≡ Refused n p) × (after ≡ buffer)
@@ -96,19 +96,19 @@ module _ (bs buffer : List ℕ) (l : Listing) (after : List ℕ) (e : (l, after)
     pub told-few-columns : length (columns-in bs) ≤ 4
     told-few-columns = input-few bs (first-done (input-checks bs) last told-done)
 
-    pub told-endless : l .endless ≡ true → (answers-in bs ≡ endless) × (after ≡ buffer)
-    told-endless t = let w = worked-endless (answers-in bs) buffer (sym (ap (λ r. r .0 .endless) (reply-is Done a)) ∙ t) in (w .0, ap (λ r. r .1) (reply-is Done a) ∙ w .1)
+    pub told-endless : l .endless ≡ true → (result-in bs ≡ endless) × (after ≡ buffer)
+    told-endless t = let w = worked-endless (result-in bs) buffer (sym (ap (λ r. r .0 .endless) (reply-is Done a)) ∙ t) in (w .0, ap (λ r. r .1) (reply-is Done a) ∙ w .1)
 
     pub told-rows : l .endless ≡ false → Told bs buffer l after
-    told-rows t = go (answers-in bs) refl (answers-right (pool q) (facts (store-in bs)) (formula q) (columns-in bs) (fv-columns (formula q))) room (reply-is Done a)
+    told-rows t = go (result-in bs) refl (result-right (pool q) (facts (store-in bs)) (formula q) (columns-in bs) (fv-columns (formula q))) room (reply-is Done a)
       where
         q : Query
         q = query-read bs
 
-        room : exceeds (length buffer) (length (columns-in bs)) (answers-in bs) ≡ false
-        room = first-clear 18 (exceeds (length buffer) (length (columns-in bs)) (answers-in bs)) [] (later-done (input-checks bs) last told-done) .0
+        room : exceeds (length buffer) (length (columns-in bs)) (result-in bs) ≡ false
+        room = first-clear 18 (exceeds (length buffer) (length (columns-in bs)) (result-in bs)) [] (later-done (input-checks bs) last told-done) .0
 
-        go : (found : Answers) → answers-in bs ≡ found → Right (pool q) (facts (store-in bs)) (formula q) (columns-in bs) found → exceeds (length buffer) (length (columns-in bs)) found ≡ false → (l, after) ≡ listing-reply Done q found buffer → Told bs buffer l after
+        go : (found : Result) → result-in bs ≡ found → Right (pool q) (facts (store-in bs)) (formula q) (columns-in bs) found → exceeds (length buffer) (length (columns-in bs)) found ≡ false → (l, after) ≡ listing-reply Done q found buffer → Told bs buffer l after
         go endless i r x h = absurd (true≢false (sym (ap (λ v. v .0 .endless) h) ∙ t))
         go (listed rows) i r x h =
             let wide : Width (length (columns-in bs)) rows = λ w m. r .1 w .0 m .0 in

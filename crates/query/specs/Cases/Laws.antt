@@ -8,10 +8,10 @@ use Rattle.calculus.specs.Sets.Laws.{reflects-all, reflects-same-by, reflects-s
 use Rattle.calculus.specs.Reflects.{Reflects, holds, fails, reflected, reflects-T, reflects-map, reflects-and}
 use Rattle.calculus.specs.Generators.{columns, Verdict, verdict, safe}
 use Rattle.calculus.specs.SafeRange.{SafeRange}
-use Rattle.calculus.specs.SafeRange.Answers.{safe-reflects, fv-columns}
-use Rattle.calculus.specs.Rows.{Row, Answers, endless, listed, Right}
-use Rattle.calculus.specs.Evaluation.{answers}
-use Rattle.calculus.specs.Evaluation.Laws.{answers-right}
+use Rattle.calculus.specs.SafeRange.Result.{safe-reflects, fv-columns}
+use Rattle.calculus.specs.Rows.{Row, Result, endless, listed, Right}
+use Rattle.calculus.specs.Evaluation.{query-result}
+use Rattle.calculus.specs.Evaluation.Laws.{result-right}
 use Rattle.causes.specs.declared.Answer.the-variants.{Done}
 use Rattle.causes.specs.Causes.Laws.{reflects-done}
 use Rattle.query.specs.Packing.{pack}
@@ -31,15 +31,15 @@ reflects-same-verdict v w =
     (λ e. (((ap (λ u. u .columns-read) e, ap (λ u. u .generators) e), ap (λ u. u .ungenerated) e), ap (λ u. u .unranged) e))
     (reflects-and (reflects-and (reflects-and (reflects-same-list (v .columns-read) (w .columns-read)) (reflects-same-by same-list reflects-same-list (v .generators) (w .generators))) (reflects-same-list (v .ungenerated) (w .ungenerated))) (reflects-same-list (v .unranged) (w .unranged)))
 
-abbrev rows-of : Answers → List Row
+abbrev rows-of : Result → List Row
 rows-of endless = []
 rows-of (listed l) = l
 
-abbrev is-listed : Answers → Bool
+abbrev is-listed : Result → Bool
 is-listed endless = false
 is-listed (listed l) = true
 
-pub reflects-same-answers : (a b : Answers) → Reflects (a ≡ b) (same-answers a b)
+pub reflects-same-answers : (a b : Result) → Reflects (a ≡ b) (same-answers a b)
 reflects-same-answers endless endless = holds refl
 reflects-same-answers endless (listed l) = fails (λ e. subst⁻¹ (λ a. T (is-listed a)) e tt)
 reflects-same-answers (listed l) endless = fails (λ e. subst (λ a. T (is-listed a)) e tt)
@@ -52,10 +52,10 @@ passes-right c t = (
   h .0 .0 .0 .1,
   h .0 .0 .1,
   subst (Reflects (SafeRange (formula-of c))) (h .0 .1) (safe-reflects (formula-of c)),
-  subst (Right (pool-of c) (c .records) (formula-of c) (columns (formula-of c))) (h .1) (answers-right (pool-of c) (c .records) (formula-of c) (columns (formula-of c)) (fv-columns (formula-of c))),
+  subst (Right (pool-of c) (c .records) (formula-of c) (columns (formula-of c))) (h .1) (result-right (pool-of c) (c .records) (formula-of c) (columns (formula-of c)) (fv-columns (formula-of c))),
 )
   where
-    h : ((((pack (c .constants) (c .query) ≡ c .bytes) × (read-case c .answer ≡ Done)) × (verdict (formula-of c) ≡ c .says)) × (safe (verdict (formula-of c)) ≡ c .says-safe)) × (answers (pool-of c) (c .records) (formula-of c) (columns (formula-of c)) ≡ c .gives)
+    h : ((((pack (c .constants) (c .query) ≡ c .bytes) × (read-case c .answer ≡ Done)) × (verdict (formula-of c) ≡ c .says)) × (safe (verdict (formula-of c)) ≡ c .says-safe)) × (query-result (pool-of c) (c .records) (formula-of c) (columns (formula-of c)) ≡ c .gives)
     h =
         reflected
         (reflects-and
@@ -64,7 +64,7 @@ passes-right c t = (
         (reflects-and (reflects-same-list (pack (c .constants) (c .query)) (c .bytes)) (reflects-done (read-case c .answer)))
         (reflects-same-verdict (verdict (formula-of c)) (c .says)))
         (reflects-beq (safe (verdict (formula-of c))) (c .says-safe)))
-        (reflects-same-answers (answers (pool-of c) (c .records) (formula-of c) (columns (formula-of c))) (c .gives)))
+        (reflects-same-answers (query-result (pool-of c) (c .records) (formula-of c) (columns (formula-of c))) (c .gives)))
         t
 
 -- Every case of the table is right.

@@ -8,7 +8,7 @@ use lib.ListN.{length}
 use lib.Dec.{T}
 use borrow.Author.Tests.{ltb-false}
 use Rattle.calculus.specs.Generators.{columns}
-use Rattle.calculus.specs.Rows.{Answers}
+use Rattle.calculus.specs.Rows.{Result}
 use Rattle.causes.specs.declared.Answer.{Answer}
 use Rattle.causes.specs.declared.Answer.the-variants.{Done, Refused}
 use Rattle.causes.specs.Causes.{Check, first-cause, is-done}
@@ -17,7 +17,7 @@ use Rattle.tables.specs.declared.Record.{Record}
 use Rattle.tables.specs.declared.Store.{Store}
 use Rattle.tables.specs.Store.{held}
 use Rattle.query.specs.Reading.{formula}
-use Rattle.answer.specs.Reply.{answers-to, query-read}
+use Rattle.answer.specs.Reply.{result-of, query-read}
 use Rattle.standing.specs.declared.View.{View}
 use Rattle.standing.specs.declared.Change.{Change}
 use Rattle.standing.specs.View.{rows-in, kept, suits}
@@ -35,12 +35,12 @@ FewTold x = (x .0 .joined ≤ 512) × (x .0 .left ≤ 512)
 abbrev pub Grown : View → Change × (List ℕ × List ℕ) → Type 0
 Grown v x = (x .0 .view .opening ≡ v .opening) × (x .0 .view .joined ≡ v .joined + x .0 .joined) × (x .0 .view .left ≡ v .left + x .0 .left)
 
-reply-grown : (a : Answer) (s t : Store) (v : View) (cols : List ℕ) (found : Answers) (first second : List ℕ) → Grown v (turn-reply a s t v cols found first second)
+reply-grown : (a : Answer) (s t : Store) (v : View) (cols : List ℕ) (found : Result) (first second : List ℕ) → Grown v (turn-reply a s t v cols found first second)
 reply-grown Done s t v cols found first second = (refl, refl, refl)
 reply-grown (Refused n p) s t v cols found first second = (refl, omega arith, omega arith)
 
 -- A reply tells the answer that it was made for; so a refusal, whatever its cause, leaves the store, the list and both buffers.
-refusal-told : (a : Answer) (s t : Store) (v : View) (cols : List ℕ) (found : Answers) (first second : List ℕ) (n p : ℕ) → turn-reply a s t v cols found first second .0 .answer ≡ Refused n p → turn-reply a s t v cols found first second ≡ (refusal n p s v, (first, second))
+refusal-told : (a : Answer) (s t : Store) (v : View) (cols : List ℕ) (found : Result) (first second : List ℕ) (n p : ℕ) → turn-reply a s t v cols found first second .0 .answer ≡ Refused n p → turn-reply a s t v cols found first second ≡ (refusal n p s v, (first, second))
 refusal-told Done s t v cols found first second n p e = absurd (subst (λ a. T (is-done a)) e tt)
 refusal-told (Refused m o) s t v cols found first second n p e = ap (λ a. turn-reply a s t v cols found first second) e
 
@@ -50,19 +50,19 @@ module _ (kind : Kind) (s : Store) (v : View) (bs : List ℕ) (r : Record) (firs
   record-causes = record-checks kind (s .widths) (held s) r
 
   abbrev turn-causes : List Check
-  turn-causes = turn-checks v (columns (formula (query-read s bs))) (answers-to (store-after kind s r) (query-read s bs)) (length first) (length second)
+  turn-causes = turn-checks v (columns (formula (query-read s bs))) (result-of (store-after kind s r) (query-read s bs)) (length first) (length second)
 
   -- The reply by the first cause met.
-  change-by : (a : Answer) → first-cause (ready-checks s v bs ++ (record-causes ++ turn-causes)) ≡ a → change-of kind s v bs r first second ≡ turn-reply a s (store-after kind s r) v (columns (formula (query-read s bs))) (answers-to (store-after kind s r) (query-read s bs)) first second
-  change-by a e = ap (λ c. turn-reply c s (store-after kind s r) v (columns (formula (query-read s bs))) (answers-to (store-after kind s r) (query-read s bs)) first second) e
+  change-by : (a : Answer) → first-cause (ready-checks s v bs ++ (record-causes ++ turn-causes)) ≡ a → change-of kind s v bs r first second ≡ turn-reply a s (store-after kind s r) v (columns (formula (query-read s bs))) (result-of (store-after kind s r) (query-read s bs)) first second
+  change-by a e = ap (λ c. turn-reply c s (store-after kind s r) v (columns (formula (query-read s bs))) (result-of (store-after kind s r) (query-read s bs)) first second) e
 
   pub change-leaves : (n p : ℕ) → change-of kind s v bs r first second .0 .answer ≡ Refused n p → change-of kind s v bs r first second ≡ (refusal n p s v, (first, second))
   change-leaves =
-      refusal-told (first-cause (ready-checks s v bs ++ (record-causes ++ turn-causes))) s (store-after kind s r) v (columns (formula (query-read s bs))) (answers-to (store-after kind s r) (query-read s bs)) first second
+      refusal-told (first-cause (ready-checks s v bs ++ (record-causes ++ turn-causes))) s (store-after kind s r) v (columns (formula (query-read s bs))) (result-of (store-after kind s r) (query-read s bs)) first second
 
   pub change-grown : Grown v (change-of kind s v bs r first second)
   change-grown =
-      reply-grown (first-cause (ready-checks s v bs ++ (record-causes ++ turn-causes))) s (store-after kind s r) v (columns (formula (query-read s bs))) (answers-to (store-after kind s r) (query-read s bs)) first second
+      reply-grown (first-cause (ready-checks s v bs ++ (record-causes ++ turn-causes))) s (store-after kind s r) v (columns (formula (query-read s bs))) (result-of (store-after kind s r) (query-read s bs)) first second
 
   -- One of the causes 1 to 10 or 12 is met.
   pub change-unready : (n p : ℕ) → first-cause (ready-checks s v bs) ≡ Refused n p → change-of kind s v bs r first second ≡ (refusal n p s v, (first, second))
@@ -80,10 +80,10 @@ module _ (kind : Kind) (s : Store) (v : View) (bs : List ℕ) (r : Record) (firs
   -- ---- how many rows are told
 
   -- Where no cause is met, the rows held before and those found anew are at most 512; a list in memory has four column places.
-  few-rows : length (v .columns .variables) ≡ 4 → first-cause (ready-checks s v bs ++ (record-causes ++ turn-causes)) ≡ Done → (length (rows-in v) ≤ 512) × (length (kept (answers-to (store-after kind s r) (query-read s bs))) ≤ 512)
+  few-rows : length (v .columns .variables) ≡ 4 → first-cause (ready-checks s v bs ++ (record-causes ++ turn-causes)) ≡ Done → (length (rows-in v) ≤ 512) × (length (kept (result-of (store-after kind s r) (query-read s bs))) ≤ 512)
   few-rows places e =
       let cols : List ℕ = columns (formula (query-read s bs)) in
-      let found : Answers = answers-to (store-after kind s r) (query-read s bs) in
+      let found : Result = result-of (store-after kind s r) (query-read s bs) in
       let j : ℕ = length (joining v found) in
       let m : ℕ = length (leaving v found) in
       let ready = first-done (ready-checks s v bs) (record-causes ++ turn-causes) e in
@@ -97,10 +97,10 @@ module _ (kind : Kind) (s : Store) (v : View) (bs : List ℕ) (r : Record) (firs
   pub few-told : length (v .columns .variables) ≡ 4 → FewTold (change-of kind s v bs r first second)
   few-told places = go (first-cause (ready-checks s v bs ++ (record-causes ++ turn-causes))) refl
     where
-      go : (a : Answer) → first-cause (ready-checks s v bs ++ (record-causes ++ turn-causes)) ≡ a → FewTold (turn-reply a s (store-after kind s r) v (columns (formula (query-read s bs))) (answers-to (store-after kind s r) (query-read s bs)) first second)
+      go : (a : Answer) → first-cause (ready-checks s v bs ++ (record-causes ++ turn-causes)) ≡ a → FewTold (turn-reply a s (store-after kind s r) v (columns (formula (query-read s bs))) (result-of (store-after kind s r) (query-read s bs)) first second)
       go Done e =
           let f = few-rows places e in
-          let found : Answers = answers-to (store-after kind s r) (query-read s bs) in
+          let found : Result = result-of (store-after kind s r) (query-read s bs) in
           let j = only-in-fewer (kept found) (rows-in v) in
           let l = only-in-fewer (rows-in v) (kept found) in
           (omega (arith, f .1, j), omega (arith, f .0, l))

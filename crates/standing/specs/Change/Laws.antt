@@ -6,7 +6,7 @@ use mathlib.Core.List.{List, [], _∷_, _++_}
 use lib.ListN.{length, getD, replicate}
 use lib.Seq.{take-append-seam}
 use Rattle.calculus.specs.Generators.{columns}
-use Rattle.calculus.specs.Rows.{Answers}
+use Rattle.calculus.specs.Rows.{Result}
 use Rattle.causes.specs.declared.Answer.{Answer}
 use Rattle.causes.specs.declared.Answer.the-variants.{Done, Refused}
 use Rattle.causes.specs.Causes.{check, first-cause, when}
@@ -19,7 +19,7 @@ use Rattle.query.specs.Reading.{max-columns, constants-of, nodes-of, read-check
 use Rattle.query.specs.Accepted.{Accepted}
 use Rattle.query.specs.Accepted.Laws.{read-cause, read-few, read-columns, reading-accepted}
 use Rattle.verdict.specs.Generating.{variables-in}
-use Rattle.answer.specs.Reply.{answers-to, query-read, Evaluable}
+use Rattle.answer.specs.Reply.{result-of, query-read, Evaluable}
 use Rattle.standing.specs.declared.View.{View}
 use Rattle.standing.specs.View.{suits}
 use Rattle.standing.specs.Checks.{view-checks}
@@ -96,30 +96,30 @@ module _ (s : Store) (bs : List ℕ) where
 -- ---- rows found anew
 
 -- Those that are not over 512, by the mark.
-pub kept-by-mark : (found : Answers) → current found .over ≡ false → current found ≡ all-kept found
+pub kept-by-mark : (found : Result) → current found .over ≡ false → current found ≡ all-kept found
 kept-by-mark found e = ap (λ b. cond b too-many (all-kept found)) (sym (over-is found) ∙ e)
 
 -- ---- the reply to an opening
 
 module _ (s : Store) (bs : List ℕ) where
-  abbrev answers-found : Answers
-  answers-found = answers-to s (query-read s bs)
+  abbrev result-found : Result
+  result-found = result-of s (query-read s bs)
 
   -- The reply by the first cause met.
-  opened-by : (a : Answer) → first-cause (begin-checks s bs ++ over-checks answers-found) ≡ a → opened-of s bs ≡ opening-reply a (columns (formula (query-read s bs))) answers-found
-  opened-by a e = ap (λ b. opening-reply b (columns (formula (query-read s bs))) answers-found) e
+  opened-by : (a : Answer) → first-cause (begin-checks s bs ++ over-checks result-found) ≡ a → opened-of s bs ≡ opening-reply a (columns (formula (query-read s bs))) result-found
+  opened-by a e = ap (λ b. opening-reply b (columns (formula (query-read s bs))) result-found) e
 
   -- Store or query are refused.
   pub opened-refused : (n p : ℕ) → first-cause (begin-checks s bs) ≡ Refused n p → opened-of s bs ≡ refused-opening n p
-  opened-refused n p e = opened-by (Refused n p) (then-refused (begin-checks s bs) (over-checks answers-found) n p e)
+  opened-refused n p e = opened-by (Refused n p) (then-refused (begin-checks s bs) (over-checks result-found) n p e)
 
   -- They aren't: the number of rows decides.
   module _ (done : first-cause (begin-checks s bs) ≡ Done) where
-    rows-decide : (b : Bool) → current answers-found .over ≡ b → first-cause (begin-checks s bs ++ over-checks answers-found) ≡ first-cause (check 17 (when b) ∷ [])
-    rows-decide b o = then-done (begin-checks s bs) (over-checks answers-found) done ∙ ap (λ c. first-cause (check 17 (when c) ∷ [])) (sym (over-is answers-found) ∙ o)
+    rows-decide : (b : Bool) → current result-found .over ≡ b → first-cause (begin-checks s bs ++ over-checks result-found) ≡ first-cause (check 17 (when b) ∷ [])
+    rows-decide b o = then-done (begin-checks s bs) (over-checks result-found) done ∙ ap (λ c. first-cause (check 17 (when c) ∷ [])) (sym (over-is result-found) ∙ o)
 
-    pub opened-over : current answers-found .over ≡ true → opened-of s bs ≡ refused-opening 17 0
+    pub opened-over : current result-found .over ≡ true → opened-of s bs ≡ refused-opening 17 0
     opened-over o = opened-by (Refused 17 0) (rows-decide true o)
 
-    pub opened-done : current answers-found .over ≡ false → opened-of s bs ≡ opening-reply Done (columns (formula (query-read s bs))) answers-found
+    pub opened-done : current result-found .over ≡ false → opened-of s bs ≡ opening-reply Done (columns (formula (query-read s bs))) result-found
     opened-done o = opened-by Done (rows-decide false o)

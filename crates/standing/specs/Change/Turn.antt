@@ -13,9 +13,9 @@ use Rattle.calculus.specs.Sets.Laws.{in-nil}
 use Rattle.calculus.specs.Lists.Laws.{or-fails}
 use Rattle.calculus.specs.Order.{Ascending, nothing}
 use Rattle.calculus.specs.Generators.{columns}
-use Rattle.calculus.specs.SafeRange.Answers.{fv-columns}
-use Rattle.calculus.specs.Rows.{row-below, Answers, endless, listed, Right}
-use Rattle.calculus.specs.Evaluation.Laws.{answers-right}
+use Rattle.calculus.specs.SafeRange.Result.{fv-columns}
+use Rattle.calculus.specs.Rows.{row-below, Result, endless, listed, Right}
+use Rattle.calculus.specs.Evaluation.Laws.{result-right}
 use Rattle.causes.specs.declared.Answer.{Answer}
 use Rattle.causes.specs.declared.Answer.the-variants.{Done, Refused}
 use Rattle.causes.specs.Causes.{check, first-cause, when}
@@ -24,7 +24,7 @@ use Rattle.tables.specs.declared.Store.{Store}
 use Rattle.tables.specs.Store.{facts}
 use Rattle.query.specs.declared.Query.{Query}
 use Rattle.query.specs.Reading.{pool, formula}
-use Rattle.answer.specs.Reply.{answers-to}
+use Rattle.answer.specs.Reply.{result-of}
 use Rattle.answer.specs.Listing.{Width}
 use Rattle.standing.specs.declared.View.{View}
 use Rattle.standing.specs.declared.Current.{Current}
@@ -36,22 +36,22 @@ use Rattle.standing.specs.Change.{joining, leaving, turn-reply, refusal,
 -- ---- what a query answers
 
 module _ (s : Store) (q : Query) where
-  right : Right (pool q) (facts s) (formula q) (columns (formula q)) (answers-to s q)
-  right = answers-right (pool q) (facts s) (formula q) (columns (formula q)) (fv-columns (formula q))
+  right : Right (pool q) (facts s) (formula q) (columns (formula q)) (result-of s q)
+  right = result-right (pool q) (facts s) (formula q) (columns (formula q)) (fv-columns (formula q))
 
   -- Its rows have a value for each column.
-  pub answers-wide : Width (length (columns (formula q))) (kept (answers-to s q))
-  answers-wide = go (answers-to s q) right
+  pub result-wide : Width (length (columns (formula q))) (kept (result-of s q))
+  result-wide = go (result-of s q) right
     where
-      go : (a : Answers) → Right (pool q) (facts s) (formula q) (columns (formula q)) a → Width (length (columns (formula q))) (kept a)
+      go : (a : Result) → Right (pool q) (facts s) (formula q) (columns (formula q)) a → Width (length (columns (formula q))) (kept a)
       go endless r w i = absurd (in-nil i)
       go (listed rows) r w i = r .1 w .0 i .0
 
   -- They ascend.
-  pub answers-ascend : Ascending row-below (kept (answers-to s q))
-  answers-ascend = go (answers-to s q) right
+  pub result-ascends : Ascending row-below (kept (result-of s q))
+  result-ascends = go (result-of s q) right
     where
-      go : (a : Answers) → Right (pool q) (facts s) (formula q) (columns (formula q)) a → Ascending row-below (kept a)
+      go : (a : Result) → Right (pool q) (facts s) (formula q) (columns (formula q)) a → Ascending row-below (kept a)
       go endless r = nothing
       go (listed rows) r = r .0
 
@@ -124,18 +124,18 @@ abbrev pub too-many : Current
 too-many = record { over = true; endless = false; rows = stored [] }
 
 -- They are kept.
-abbrev pub all-kept : Answers → Current
+abbrev pub all-kept : Result → Current
 all-kept found = record { over = false; endless = mark found; rows = stored (kept found) }
 
 -- It is the first or the second, by their number.
-pub current-over : (found : Answers) → 512 < length (kept found) → current found ≡ too-many
+pub current-over : (found : Result) → 512 < length (kept found) → current found ≡ too-many
 current-over found h = ap (λ b. cond b too-many (all-kept found)) (lt-ltb 512 (length (kept found)) h)
 
-pub current-kept : (found : Answers) → length (kept found) ≤ 512 → current found ≡ all-kept found
+pub current-kept : (found : Result) → length (kept found) ≤ 512 → current found ≡ all-kept found
 current-kept found h = ap (λ b. cond b too-many (all-kept found)) (le-ltb 512 (length (kept found)) h)
 
 -- Which it is can be read off.
-pub over-is : (found : Answers) → current found .over ≡ is-over (length (kept found))
+pub over-is : (found : Result) → current found .over ≡ is-over (length (kept found))
 over-is found = go (is-over (length (kept found)))
   where
     go : (b : Bool) → cond b too-many (all-kept found) .over ≡ b
@@ -145,8 +145,8 @@ over-is found = go (is-over (length (kept found)))
 -- ---- the reply
 
 module _ (s t : Store) (v : View) (q : Query) (first second : List ℕ) where
-  abbrev found : Answers
-  found = answers-to t q
+  abbrev found : Result
+  found = result-of t q
 
   abbrev cols : List ℕ
   cols = columns (formula q)

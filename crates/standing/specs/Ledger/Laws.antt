@@ -8,12 +8,12 @@ use mathlib.Core.List.{List, [], _∷_, map}
 use lib.ListN.{length}
 use lib.Dec.{T}
 use Rattle.calculus.specs.Order.{Ascending, nothing}
-use Rattle.calculus.specs.SafeRange.Answers.{fv-columns}
+use Rattle.calculus.specs.SafeRange.Result.{fv-columns}
 use Rattle.calculus.specs.Generators.{columns}
-use Rattle.calculus.specs.Rows.{Row, row-below, Answers, endless, listed, Right, only-in}
+use Rattle.calculus.specs.Rows.{Row, row-below, Result, endless, listed, Right, only-in}
 use Rattle.calculus.specs.Rows.Laws.{change-counts}
-use Rattle.calculus.specs.Evaluation.{answers}
-use Rattle.calculus.specs.Evaluation.Laws.{answers-right, right-unique}
+use Rattle.calculus.specs.Evaluation.{query-result}
+use Rattle.calculus.specs.Evaluation.Laws.{result-right, right-unique}
 use Rattle.causes.specs.declared.Answer.{Answer as Outcome}
 use Rattle.causes.specs.declared.Answer.the-variants.{Done, Refused}
 use Rattle.causes.specs.Causes.{first-cause, is-done}
@@ -36,29 +36,29 @@ module _ (q : Query) where
   -- ---- what is found
 
   -- What the query answers over records of these widths.
-  abbrev pub answers-among : List ℕ → List Record → Answers
-  answers-among ws rs = answers (pool q) (map (fact-of ws) rs) (formula q) (columns (formula q))
+  abbrev pub result-among : List ℕ → List Record → Result
+  result-among ws rs = query-result (pool q) (map (fact-of ws) rs) (formula q) (columns (formula q))
 
   module _ (ws : List ℕ) (rs : List Record) where
-    abbrev pub RightAmong : Answers → Type 0
+    abbrev pub RightAmong : Result → Type 0
     RightAmong a = Right (pool q) (map (fact-of ws) rs) (formula q) (columns (formula q)) a
 
-    pub right-among : RightAmong (answers-among ws rs)
-    right-among = answers-right (pool q) (map (fact-of ws) rs) (formula q) (columns (formula q)) (fv-columns (formula q))
+    pub right-among : RightAmong (result-among ws rs)
+    right-among = result-right (pool q) (map (fact-of ws) rs) (formula q) (columns (formula q)) (fv-columns (formula q))
 
     -- Right answers are found,
-    found-right : (a : Answers) → RightAmong a → Found q ws rs (mark a) (kept a)
+    found-right : (a : Result) → RightAmong a → Found q ws rs (mark a) (kept a)
     found-right endless r = (r, refl)
     found-right (listed rows) r = r
 
-    pub found-among : Found q ws rs (mark (answers-among ws rs)) (kept (answers-among ws rs))
-    found-among = found-right (answers-among ws rs) right-among
+    pub found-among : Found q ws rs (mark (result-among ws rs)) (kept (result-among ws rs))
+    found-among = found-right (result-among ws rs) right-among
 
     -- and what is found are the right answers.
-    unique-among : (a : Answers) → RightAmong a → a ≡ answers-among ws rs
-    unique-among a r = right-unique (pool q) (map (fact-of ws) rs) (formula q) (columns (formula q)) a (answers-among ws rs) r right-among
+    unique-among : (a : Result) → RightAmong a → a ≡ result-among ws rs
+    unique-among a r = right-unique (pool q) (map (fact-of ws) rs) (formula q) (columns (formula q)) a (result-among ws rs) r right-among
 
-    pub found-is : (b : Bool) (rows : List Row) → Found q ws rs b rows → (b ≡ mark (answers-among ws rs)) × (rows ≡ kept (answers-among ws rs))
+    pub found-is : (b : Bool) (rows : List Row) → Found q ws rs b rows → (b ≡ mark (result-among ws rs)) × (rows ≡ kept (result-among ws rs))
     found-is true rows f = let e = unique-among endless (f .0) in (ap mark e, f .1 ∙ ap kept e)
     found-is false rows f = let e = unique-among (listed rows) f in (ap mark e, ap kept e)
 
@@ -71,15 +71,15 @@ module _ (q : Query) where
   -- The ledger of an opening.
   abbrev pub opening-ledger : Store → Ledger
   opening-ledger s =
-      let found : Answers = answers-among (s .widths) (held s) in
+      let found : Result = result-among (s .widths) (held s) in
       record { widths = s .widths; records = held s; rows = kept found; endless = mark found; opening = length (kept found); joined = 0; left = 0 }
 
   -- What a call answers, and the ledger after it, where these answers are found anew.
-  abbrev pub entry-by : Ledger → Call → Answers → Report × Ledger
+  abbrev pub entry-by : Ledger → Call → Result → Report × Ledger
   entry-by l c found = let n : Ledger = renewed l c (mark found) (kept found) in entered (first-cause (entry-checks q l c n)) l n
 
   abbrev pub entry : Ledger → Call → Report × Ledger
-  entry l c = entry-by l c (answers-among (l .widths) (records-after (c .kind) (c .tuple) (l .records)))
+  entry l c = entry-by l c (result-among (l .widths) (records-after (c .kind) (c .tuple) (l .records)))
 
   -- The reports of any number of calls, and the ledger after them.
   abbrev pub entries : Ledger → List Call → List Report × Ledger
@@ -99,7 +99,7 @@ module _ (q : Query) where
         left = o .left-is i;
       }
     where
-      found : (l .endless ≡ mark (answers-among (s .widths) (held s))) × (l .rows ≡ kept (answers-among (s .widths) (held s)))
+      found : (l .endless ≡ mark (result-among (s .widths) (held s))) × (l .rows ≡ kept (result-among (s .widths) (held s)))
       found =
           found-is (s .widths) (held s) (l .endless) (l .rows)
           (subst (λ rs. Found q (s .widths) rs (l .endless) (l .rows)) (o .records-are) (subst (λ ws. Found q ws (l .records) (l .endless) (l .rows)) (o .widths-are) (o .found)))
@@ -125,7 +125,7 @@ module _ (q : Query) where
   entry-enters : (l : Ledger) (c : Call) → Enters q l c (entry l c .0) (entry l c .1)
   entry-enters l c =
       let rs : List Record = records-after (c .kind) (c .tuple) (l .records) in
-      let found : Answers = answers-among (l .widths) rs in
+      let found : Result = result-among (l .widths) rs in
       record { mark = mark found; rows = kept found; found = found-among (l .widths) rs; entered-is = refl }
 
   pub ledger-goes-on : (l : Ledger) (cs : List Call) → (rs : List Report) × (n : Ledger) × Accounts q l cs rs n
@@ -152,7 +152,7 @@ module _ (q : Query) where
 
   pub entry-reports : (l : Ledger) (c : Call) → entry l c .0 .answer ≡ Done → Reports l (entry l c)
   entry-reports l c e =
-      let found : Answers = answers-among (l .widths) (records-after (c .kind) (c .tuple) (l .records)) in
+      let found : Result = result-among (l .widths) (records-after (c .kind) (c .tuple) (l .records)) in
       let n : Ledger = renewed l c (mark found) (kept found) in
       entered-reports (first-cause (entry-checks q l c n)) l n e
 

@@ -12,7 +12,7 @@ use Rattle.calculus.specs.Sets.{In}
 use Rattle.calculus.specs.Reflects.{Reflects, holds, fails}
 use Rattle.calculus.specs.Order.{Ascending}
 use Rattle.calculus.specs.Generators.{columns}
-use Rattle.calculus.specs.Rows.{Row, row-below, Answers, endless, listed, only-in}
+use Rattle.calculus.specs.Rows.{Row, row-below, Result, endless, listed, only-in}
 use Rattle.calculus.specs.Rows.Laws.{in-only-in, only-in-ascending}
 use Rattle.calculus.specs.Evaluation.Laws.{not-endless}
 use Rattle.causes.specs.declared.Answer.the-variants.{Done}
@@ -20,7 +20,7 @@ use Rattle.tables.specs.declared.Store.{Store}
 use Rattle.tables.specs.Store.{facts, held}
 use Rattle.query.specs.declared.Query.{Query}
 use Rattle.query.specs.Reading.{pool, formula}
-use Rattle.answer.specs.Reply.{answers-to, query-read}
+use Rattle.answer.specs.Reply.{result-of, query-read}
 use Rattle.answer.specs.Reply.Right.{EndlessOver, RightOver}
 use Rattle.standing.specs.declared.View.{View}
 use Rattle.standing.specs.View.{rows-in, kept, mark}
@@ -35,17 +35,17 @@ use Rattle.standing.specs.Runs.Steps.{Standing, step, steps, standing-ro
 
 module _ (s : Store) (q : Query) where
   -- Its mark says whether infinitely many rows satisfy the query;
-  marks : (a : Answers) → RightOver s q a → Reflects (EndlessOver s q) (mark a)
+  marks : (a : Result) → RightOver s q a → Reflects (EndlessOver s q) (mark a)
   marks endless r = holds r
   marks (listed rows) r = fails (not-endless (pool q) (facts s) (formula q) (columns (formula q)) rows r)
 
   -- where not, it keeps all that do.
-  keeps : (a : Answers) → RightOver s q a → ¬ EndlessOver s q → RightOver s q (listed (kept a))
+  keeps : (a : Result) → RightOver s q a → ¬ EndlessOver s q → RightOver s q (listed (kept a))
   keeps endless r n = absurd (n r)
   keeps (listed rows) r n = r
 
 -- A marked one keeps none.
-marked-none : (a : Answers) → mark a ≡ true → kept a ≡ []
+marked-none : (a : Result) → mark a ≡ true → kept a ≡ []
 marked-none endless e = refl
 marked-none (listed rows) e = absurd (subst⁻¹ T e tt)
 
@@ -73,7 +73,7 @@ module _ (bs : List ℕ) (s t : Store) (v w : View) (opened : opened-of s bs ≡
   stands : Standing bs q last t w
   stands = steps bs q run (opening-ledger q s) (opening-standing bs s v opened) .1
 
-  rows-held : rows-in w ≡ kept (answers-to t q)
+  rows-held : rows-in w ≡ kept (result-of t q)
   rows-held = standing-rows bs q last t w stands
 
   -- The claim: whatever ledger is fed the opening's store and query and then the calls, the replies are its reports, and at the end store and list are its own.
@@ -85,20 +85,20 @@ module _ (bs : List ℕ) (s t : Store) (v w : View) (opened : opened-of s bs ≡
 
   -- Endless exactly when infinitely many rows satisfy the query over the records then held;
   pub run-endless : Reflects (EndlessOver t (query-read s bs)) (w .endless)
-  run-endless = subst⁻¹ (λ u. Reflects (EndlessOver t q) (u .endless)) (stands .view-is) (marks t q (answers-to t q) (right-among q (t .widths) (held t)))
+  run-endless = subst⁻¹ (λ u. Reflects (EndlessOver t q) (u .endless)) (stands .view-is) (marks t q (result-of t q) (right-among q (t .widths) (held t)))
 
   -- and then without rows;
   pub run-marked : w .endless ≡ true → rows-in w ≡ []
-  run-marked e = rows-held ∙ marked-none (answers-to t q) (ap (λ u. u .endless) (sym (stands .view-is)) ∙ e)
+  run-marked e = rows-held ∙ marked-none (result-of t q) (ap (λ u. u .endless) (sym (stands .view-is)) ∙ e)
 
   -- else the list holds all such rows and no other, each once, ascending.
   pub run-rows : ¬ EndlessOver t (query-read s bs) → RightOver t (query-read s bs) (listed (rows-in w))
-  run-rows n = subst⁻¹ (λ rows. RightOver t q (listed rows)) rows-held (keeps t q (answers-to t q) (right-among q (t .widths) (held t)) n)
+  run-rows n = subst⁻¹ (λ rows. RightOver t q (listed rows)) rows-held (keeps t q (result-of t q) (right-among q (t .widths) (held t)) n)
 
   -- The counts add up.
   pub run-balanced : w .opening + w .joined ≡ w .left + length (rows-in w)
   run-balanced =
-      subst⁻¹ (λ u. u .opening + u .joined ≡ u .left + length (kept (answers-to t q))) (stands .view-is) (stands .state .balanced .counts) ∙ ap (λ rows. w .left + length rows) (sym rows-held)
+      subst⁻¹ (λ u. u .opening + u .joined ≡ u .left + length (kept (result-of t q))) (stands .view-is) (stands .state .balanced .counts) ∙ ap (λ rows. w .left + length rows) (sym rows-held)
 
   -- They are of the rows at the opening, and of all that the replies told; so the rows at the opening and those told as joined are as many as those told as
   -- left and the rows held.

@@ -11,7 +11,7 @@ use borrow.Author.Tests.{ltb-false}
 use Rattle.calculus.specs.Sets.{any-of}
 use Rattle.calculus.specs.Order.{Ascending}
 use Rattle.calculus.specs.Generators.{columns}
-use Rattle.calculus.specs.Rows.{Row, row-below, Answers, endless, only-in}
+use Rattle.calculus.specs.Rows.{Row, row-below, Result, endless, only-in}
 use Rattle.causes.specs.declared.Answer.{Answer as Outcome}
 use Rattle.causes.specs.declared.Answer.the-variants.{Done, Refused}
 use Rattle.causes.specs.Causes.{Check, check, first-cause, when, is-done}
@@ -22,7 +22,7 @@ use Rattle.query.specs.declared.Query.{Query}
 use Rattle.query.specs.Reading.{formula, columns-of, read-checks}
 use Rattle.answer.specs.Listing.{numbers, Width}
 use Rattle.answer.specs.Listing.Rows.{numbers-width}
-use Rattle.answer.specs.Reply.{answers-to, query-read}
+use Rattle.answer.specs.Reply.{result-of, query-read}
 use Rattle.standing.specs.declared.View.{View}
 use Rattle.standing.specs.View.{rows-in, kept, mark, view-of, suits, QueryColumns}
 use Rattle.standing.specs.View.Difference.{only-in-width}
@@ -31,9 +31,9 @@ use Rattle.standing.specs.Checks.{record-checks, records-after, is-over,
 use Rattle.standing.specs.Change.{begin-checks, over-checks, opening-reply, opened-of, ready-checks, store-after, fronted, refusal, turn-checks, turn-reply, change-of}
 use Rattle.standing.specs.Change.Laws.{begun-judged, begun-few}
 use Rattle.standing.specs.Change.Stores.{after-judged, after-held}
-use Rattle.standing.specs.Change.Turn.{answers-wide, report-clear}
+use Rattle.standing.specs.Change.Turn.{result-wide, report-clear}
 use Rattle.standing.specs.Ledger.{Ledger, Call, Report, renewed, entered}
-use Rattle.standing.specs.Ledger.Laws.{Balanced, renewed-balanced, answers-among, found-among, found-ascending, opening-ledger, opening-opens, opens-balanced, entry, entry-by, entries}
+use Rattle.standing.specs.Ledger.Laws.{Balanced, renewed-balanced, result-among, found-among, found-ascending, opening-ledger, opening-opens, opens-balanced, entry, entry-by, entries}
 use Rattle.standing.specs.Runs.{Reply, Ensured, Run, ended, call, Agrees, Agree, none, also, Represents}
 
 -- Rows for which there is room leave the length of the buffer.
@@ -51,22 +51,22 @@ module _ (bs : List ℕ) (q : Query) where
       record {
         widths = s .widths;
         records = held s;
-        rows = kept (answers-to s q);
-        endless = mark (answers-to s q);
+        rows = kept (result-of s q);
+        endless = mark (result-of s q);
         opening = opening;
         joined = joined;
         left = left;
       }
 
   abbrev pub list-of : Store → ℕ → ℕ → ℕ → View
-  list-of s opening joined left = view-of (columns (formula q)) (answers-to s q) opening joined left
+  list-of s opening joined left = view-of (columns (formula q)) (result-of s q) opening joined left
 
   -- The store meets neither 1 nor 2, the bytes are read as the query over it, its rows are at most 512, and the counts add up.
   pub record State (s : Store) (opening joined left : ℕ) : Type 0 where
     pub judged : judgement s ≡ Done
     pub read : first-cause (read-checks (s .widths) bs) ≡ Done
     pub query-is : query-read s bs ≡ q
-    pub few : length (kept (answers-to s q)) ≤ 512
+    pub few : length (kept (result-of s q)) ≤ 512
     pub balanced : Balanced (ledger-of s opening joined left)
 
   -- A ledger, and the store and the list that stand for it.
@@ -94,15 +94,15 @@ module _ (bs : List ℕ) (q : Query) where
     cols : QueryColumns (columns-of (columns (formula q)))
     cols = query-columns q (subst (λ p. length (columns (formula p)) ≤ 4) (state .query-is) (begun-few s bs begin-done))
 
-    wide : Width (length (columns (formula q))) (kept (answers-to s q))
-    wide = answers-wide s q
+    wide : Width (length (columns (formula q))) (kept (result-of s q))
+    wide = result-wide s q
 
     -- It holds the ledger's rows, and is in the layout.
-    rows-are : rows-in (list-of s o j e) ≡ kept (answers-to s q)
-    rows-are = rows-of-view (columns (formula q)) cols (answers-to s q) (state .few) wide (state .balanced .ascending) o j e
+    rows-are : rows-in (list-of s o j e) ≡ kept (result-of s q)
+    rows-are = rows-of-view (columns (formula q)) cols (result-of s q) (state .few) wide (state .balanced .ascending) o j e
 
     list-suits : T (suits (list-of s o j e) (columns (formula q)))
-    list-suits = view-suits (columns (formula q)) cols (answers-to s q) (state .few) wide (state .balanced .ascending) o j e (state .balanced .counts)
+    list-suits = view-suits (columns (formula q)) cols (result-of s q) (state .few) wide (state .balanced .ascending) o j e (state .balanced .counts)
 
     -- So store and list are the ledger's.
     represents : Represents q (ledger-of s o j e) s (list-of s o j e)
@@ -134,7 +134,7 @@ module _ (bs : List ℕ) (q : Query) where
     module _ (c : Call) where
       -- The rows held before the call, and the store after a change.
       abbrev before : List Row
-      before = kept (answers-to s q)
+      before = kept (result-of s q)
 
       abbrev after : Store
       after = store-after (c .kind) s (c .tuple)
@@ -143,14 +143,14 @@ module _ (bs : List ℕ) (q : Query) where
       abbrev tests : List Check
       tests = record-checks (c .kind) (s .widths) (held s) (c .tuple)
 
-      abbrev reports : List Row → Answers → List Check
+      abbrev reports : List Row → Result → List Check
       reports rows found =
           let joined : ℕ = length (only-in (kept found) rows) in
           let left : ℕ = length (only-in rows (kept found)) in
           report-checks (is-over (length (kept found))) (o ∷ (j + joined) ∷ (e + left) ∷ []) (length (columns (formula q))) joined left (length (c .first)) (length (c .second))
 
       -- The engine's reply by the first cause met, where these rows were held before.
-      abbrev replied : Outcome → List Row → Answers → Reply
+      abbrev replied : Outcome → List Row → Result → Reply
       replied Done rows found =
           let joined : List Row = only-in (kept found) rows in
           let left : List Row = only-in rows (kept found) in (
@@ -162,17 +162,17 @@ module _ (bs : List ℕ) (q : Query) where
       abbrev change : Reply
       change = change-of (c .kind) s (list-of s o j e) bs (c .tuple) (c .first) (c .second)
 
-      turned : (a : Outcome) (found : Answers) → turn-reply a s after (list-of s o j e) (columns (formula q)) found (c .first) (c .second) ≡ replied a (rows-in (list-of s o j e)) found
+      turned : (a : Outcome) (found : Result) → turn-reply a s after (list-of s o j e) (columns (formula q)) found (c .first) (c .second) ≡ replied a (rows-in (list-of s o j e)) found
       turned Done found = refl
       turned (Refused n p) found = refl
 
       -- It is that for the rows of the ledger.
-      changed : change ≡ replied (first-cause (tests ++ reports before (answers-to after q))) before (answers-to after q)
+      changed : change ≡ replied (first-cause (tests ++ reports before (result-of after q))) before (result-of after q)
       changed =
-          ap (λ a. turn-reply a s after v (columns (formula read)) (answers-to after read) (c .first) (c .second)) (then-done (ready-checks s v bs) (tests ++ turn-checks v (columns (formula read)) (answers-to after read) (length (c .first)) (length (c .second))) ready-done)
-          ∙ ap (λ p. turn-reply (first-cause (tests ++ turn-checks v (columns (formula p)) (answers-to after p) (length (c .first)) (length (c .second)))) s after v (columns (formula p)) (answers-to after p) (c .first) (c .second)) (state .query-is)
-          ∙ turned (first-cause (tests ++ reports (rows-in v) (answers-to after q))) (answers-to after q)
-          ∙ ap (λ rows. replied (first-cause (tests ++ reports rows (answers-to after q))) rows (answers-to after q)) rows-are
+          ap (λ a. turn-reply a s after v (columns (formula read)) (result-of after read) (c .first) (c .second)) (then-done (ready-checks s v bs) (tests ++ turn-checks v (columns (formula read)) (result-of after read) (length (c .first)) (length (c .second))) ready-done)
+          ∙ ap (λ p. turn-reply (first-cause (tests ++ turn-checks v (columns (formula p)) (result-of after p) (length (c .first)) (length (c .second)))) s after v (columns (formula p)) (result-of after p) (c .first) (c .second)) (state .query-is)
+          ∙ turned (first-cause (tests ++ reports (rows-in v) (result-of after q))) (result-of after q)
+          ∙ ap (λ rows. replied (first-cause (tests ++ reports rows (result-of after q))) rows (result-of after q)) rows-are
         where
           v : View
           v = list-of s o j e
@@ -181,7 +181,7 @@ module _ (bs : List ℕ) (q : Query) where
           read = query-read s bs
 
       -- A refusal on either side leaves all.
-      refused-matches : (n p : ℕ) (found : Answers) (m : Ledger) → Matches c (replied (Refused n p) before found) (entered (Refused n p) (ledger-of s o j e) m)
+      refused-matches : (n p : ℕ) (found : Result) (m : Ledger) → Matches c (replied (Refused n p) before found) (entered (Refused n p) (ledger-of s o j e) m)
       refused-matches n p found m = (
         record { answer-is = refl; joined-is = refl; left-is = refl; first-is = refl; second-is = refl; first-length = refl; second-length = refl },
         record { opening = o; joined = j; left = e; state = state; ledger-is = refl; view-is = refl },
@@ -189,11 +189,11 @@ module _ (bs : List ℕ) (q : Query) where
 
       module _ (done : first-cause tests ≡ Done) where
         -- The answers over the store after the change are those over the ledger's records after it.
-        after-answers : answers-among q (s .widths) (records-after (c .kind) (c .tuple) (held s)) ≡ answers-to after q
-        after-answers = ap (answers-among q (s .widths)) (sym (after-held s (c .tuple) (state .judged) (c .kind) done))
+        after-result : result-among q (s .widths) (records-after (c .kind) (c .tuple) (held s)) ≡ result-of after q
+        after-result = ap (result-among q (s .widths)) (sym (after-held s (c .tuple) (state .judged) (c .kind) done))
 
-        abbrev found : Answers
-        found = answers-to after q
+        abbrev found : Result
+        found = result-of after q
 
         abbrev joined : List Row
         joined = only-in (kept found) before
@@ -246,7 +246,7 @@ module _ (bs : List ℕ) (q : Query) where
               left-is = refl;
               first-is = refl;
               second-is = refl;
-              first-length = fronted-length k joined (c .first) (only-in-width k (kept found) before (answers-wide after q)) (room .2);
+              first-length = fronted-length k joined (c .first) (only-in-width k (kept found) before (result-wide after q)) (room .2);
               second-length = fronted-length k left (c .second) (only-in-width k before (kept found) wide) (room .3);
             },
             record { opening = o; joined = j + length joined; left = e + length left; state = next-state; ledger-is = next-is; view-is = refl },
@@ -260,15 +260,15 @@ module _ (bs : List ℕ) (q : Query) where
       -- And whatever the causes 13 to 16 do.
       change-matches : (a : Outcome) → first-cause tests ≡ a → Matches c change (entry q (ledger-of s o j e) c)
       change-matches Done f =
-          let found : Answers = answers-to after q in
+          let found : Result = result-of after q in
           let same = then-done tests (reports before found) f in
           matches-at c
           (changed ∙ ap (λ a. replied a before found) same)
-          (ap (entry-by q (ledger-of s o j e) c) (after-answers f) ∙ ap (λ a. entered a (ledger-of s o j e) (next f)) same)
+          (ap (entry-by q (ledger-of s o j e) c) (after-result f) ∙ ap (λ a. entered a (ledger-of s o j e) (next f)) same)
           (turn-matches f (first-cause (reports before found)) refl)
       change-matches (Refused n p) f =
-          let found : Answers = answers-to after q in
-          let among : Answers = answers-among q (s .widths) (records-after (c .kind) (c .tuple) (held s)) in
+          let found : Result = result-of after q in
+          let among : Result = result-among q (s .widths) (records-after (c .kind) (c .tuple) (held s)) in
           let renewal : Ledger = renewed (ledger-of s o j e) c (mark among) (kept among) in
           matches-at c
           (changed ∙ ap (λ a. replied a before found) (then-refused tests (reports before found) n p f))
@@ -294,7 +294,7 @@ module _ (bs : List ℕ) (q : Query) where
   -- ---- what stands for a ledger
 
   -- The list holds the rows that the query answers over the store, ascending.
-  pub standing-rows : (l : Ledger) (s : Store) (v : View) → Standing l s v → rows-in v ≡ kept (answers-to s q)
+  pub standing-rows : (l : Ledger) (s : Store) (v : View) → Standing l s v → rows-in v ≡ kept (result-of s q)
   standing-rows l s v z = ap rows-in (z .view-is) ∙ rows-are s (z .opening) (z .joined) (z .left) (z .state)
 
   pub standing-ascends : (l : Ledger) (s : Store) (v : View) → Standing l s v → Ascending row-below (rows-in v)
@@ -308,7 +308,7 @@ module _ (bs : List ℕ) (q : Query) where
 -- ---- an accepted opening
 
 -- It answers with the list of what is found.
-opening-accepted : (a : Outcome) (cols : List ℕ) (found : Answers) (v : View) → opening-reply a cols found ≡ record { answer = Done; view = v } → (a ≡ Done) × (v ≡ view-of cols found (length (kept found)) 0 0)
+opening-accepted : (a : Outcome) (cols : List ℕ) (found : Result) (v : View) → opening-reply a cols found ≡ record { answer = Done; view = v } → (a ≡ Done) × (v ≡ view-of cols found (length (kept found)) 0 0)
 opening-accepted Done cols found v e = (refl, ap (λ r. r .view) (sym e))
 opening-accepted (Refused n p) cols found v e = absurd (subst (λ r. T (not (is-done (r .answer)))) e tt)
 
@@ -316,14 +316,14 @@ module _ (bs : List ℕ) (s : Store) (v : View) (opened : opened-of s bs ≡ rec
   abbrev asked : Query
   asked = query-read s bs
 
-  abbrev answered : Answers
-  answered = answers-to s asked
+  abbrev answered : Result
+  answered = result-of s asked
 
   -- No cause is met, and the list is that of the rows found.
   accepted : (first-cause (begin-checks s bs ++ over-checks answered) ≡ Done) × (v ≡ list-of bs asked s (length (kept answered)) 0 0)
   accepted = opening-accepted (first-cause (begin-checks s bs ++ over-checks answered)) (columns (formula asked)) answered v opened
 
-  pub opened-is : v ≡ list-of bs (query-read s bs) s (length (kept (answers-to s (query-read s bs)))) 0 0
+  pub opened-is : v ≡ list-of bs (query-read s bs) s (length (kept (result-of s (query-read s bs)))) 0 0
   opened-is = accepted .1
 
   begun : first-cause (begin-checks s bs) ≡ Done

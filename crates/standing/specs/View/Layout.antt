@@ -16,8 +16,8 @@ use Rattle.calculus.specs.Lists.Laws.{reflects-replicate, and-holds}
 use Rattle.calculus.specs.Order.{Ascending, is-ascending}
 use Rattle.calculus.specs.Order.Laws.{ltb-order, reflects-ascending}
 use Rattle.calculus.specs.Generators.{columns}
-use Rattle.calculus.specs.SafeRange.Answers.{columns-ascending}
-use Rattle.calculus.specs.Rows.{Row, row-below, Answers, endless, listed}
+use Rattle.calculus.specs.SafeRange.Result.{columns-ascending}
+use Rattle.calculus.specs.Rows.{Row, row-below, Result, endless, listed}
 use Rattle.calculus.specs.Rows.Laws.{row-order}
 use Rattle.query.specs.declared.Columns.{Columns}
 use Rattle.query.specs.declared.Query.{Query}
@@ -220,11 +220,11 @@ module _ (v : View) (c : Columns) (q : QueryColumns c) where
 -- ---- the list of answers
 
 -- An endless list keeps no rows.
-no-mark : (found : Answers) → (mark found && ltb 0 (length (kept found))) ≡ false
+no-mark : (found : Result) → (mark found && ltb 0 (length (kept found))) ≡ false
 no-mark endless = refl
 no-mark (listed rows) = refl
 
-module _ (cols : List ℕ) (c : QueryColumns (columns-of cols)) (found : Answers) (few : length (kept found) ≤ 512) (wide : Width (length cols) (kept found)) (a : Ascending row-below (kept found)) (o j l : ℕ) where
+module _ (cols : List ℕ) (c : QueryColumns (columns-of cols)) (found : Result) (few : length (kept found) ≤ 512) (wide : Width (length cols) (kept found)) (a : Ascending row-below (kept found)) (o j l : ℕ) where
   columns-few : length cols ≤ 4
   columns-few = subst (λ xs. length xs ≤ 4) (columns-read cols) (c .few)
 

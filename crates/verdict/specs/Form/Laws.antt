@@ -15,8 +15,8 @@ use Rattle.calculus.specs.Reflects.{Reflects, holds, fails, reflects-leb}
 use Rattle.calculus.specs.Formula.{Term, var, con, Fmla, truth, rel, eq, neg, conj, disj, exists, fv, size}
 use Rattle.calculus.specs.Order.Laws.{ltb-order, ascending-distinct, pigeonhole}
 use Rattle.calculus.specs.Generators.{columns}
-use Rattle.calculus.specs.SafeRange.Answers.{columns-members, columns-ascending}
-use Rattle.calculus.specs.Propagation.{exists-free, is-truth, cp-eq, cp-neg, cp}
+use Rattle.calculus.specs.SafeRange.Result.{columns-members, columns-ascending}
+use Rattle.calculus.specs.Propagation.{exists-if-free, is-truth, cp-eq, cp-neg, cp}
 use Rattle.calculus.specs.Propagation.Laws.{NegView, neg-truth, neg-other, neg-view, join, cp-join, JoinView, left-unit, left-zero, right-unit, right-zero, neither, join-view, ExistsView, kept, dropped, exists-view, fv-cp, size-cp}
 use Rattle.causes.specs.Causes.{widths-fit}
 use Rattle.query.specs.declared.Query.{Query}
@@ -150,7 +150,7 @@ module _ (ws : List ℕ) (k : ℕ) (fit : T (widths-fit ws)) (few : k ≤ max-co
           let z : length (ys ++ words ψ m) ≡ m + size ψ = subst (λ j. length (ys ++ words ψ j) ≡ j + size ψ) l (end-after ys ψ) in
           joined-other (join-kind u) (length xs) m (ys ++ words ψ m) o ∙ rw (z, words-join, append-assoc, append-assoc)
 
-  pub quantified-words : (x : ℕ) (xs : List ℕ) (φ : Fmla) → Fits ws k φ → length xs + size φ ≤ max-nodes → quantified x (xs ++ words φ (length xs)) ≡ xs ++ words (exists-free x φ) (length xs)
+  pub quantified-words : (x : ℕ) (xs : List ℕ) (φ : Fmla) → Fits ws k φ → length xs + size φ ≤ max-nodes → quantified x (xs ++ words φ (length xs)) ≡ xs ++ words (exists-if-free x φ) (length xs)
   quantified-words x xs φ f h = rw (root-after xs φ f h, end-after xs φ) (go (member x (fv φ)))
     where
       go : (b : Bool) → cond b ((xs ++ words φ (length xs)) ++ ((3221225472 + x * 33554432 + (length xs + size φ - 1) * 524288) ∷ [])) (xs ++ words φ (length xs)) ≡ xs ++ words (cond b (exists x φ) φ) (length xs)

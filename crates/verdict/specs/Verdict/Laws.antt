@@ -18,10 +18,10 @@ use Rattle.calculus.specs.Formula.{Fmla, fv, size, node, nodes}
 use Rattle.calculus.specs.Formula.Laws.{node-below}
 use Rattle.calculus.specs.Propagation.{cp}
 use Rattle.calculus.specs.Generation.{Ap, Generated}
-use Rattle.calculus.specs.Generators.{Leaves, Answered, generated-by, not-generated, AtNode, columns, plain, leaves, unranged-node, verdict, safe}
-use Rattle.calculus.specs.Generators.Laws.{plain-answered, leaf-atom}
+use Rattle.calculus.specs.Generators.{Leaves, LeavesRight, generated-by, not-generated, AtNode, columns, plain, leaves, unranged-node, verdict, safe}
+use Rattle.calculus.specs.Generators.Laws.{plain-right, leaf-atom}
 use Rattle.calculus.specs.SafeRange.{SafeRange}
-use Rattle.calculus.specs.SafeRange.Answers.{columns-members, ungenerated-means, Unranged, unranged-means, safe-reflects}
+use Rattle.calculus.specs.SafeRange.Result.{columns-members, ungenerated-means, Unranged, unranged-means, safe-reflects}
 use Rattle.causes.specs.declared.Answer.the-variants.{Done, Refused}
 use Rattle.query.specs.declared.Query.{Query}
 use Rattle.query.specs.declared.Columns.{Columns}
@@ -69,7 +69,7 @@ getD-mapped f d (x ∷ xs) zero h = refl
 getD-mapped f d (x ∷ xs) (suc c) h = getD-mapped f d xs c (omega arith)
 
 -- A leaf of an answer is an atom of the formula.
-leaf-of : {x n : ℕ} {φ : Fmla} {a : Leaves} → Answered x φ n a → (p : ℕ) → In p (leaves a) → AtNode Ap φ n p
+leaf-of : {x n : ℕ} {φ : Fmla} {a : Leaves} → LeavesRight x φ n a → (p : ℕ) → In p (leaves a) → AtNode Ap φ n p
 leaf-of (generated-by G g) p i = leaf-atom g p i
 leaf-of (not-generated g) p i = absurd (in-nil i)
 
@@ -109,14 +109,14 @@ module _ (ws : List ℕ) (q : Query) (a : Accepted ws q) where
   generator-bit c n h l = ap (λ m. has max-nodes m n) (number-at (formula q) c h) ∙ has-bits (λ k. member k (leaves (plain (cp (formula q)) 0 (getD (columns (formula q)) c 0)))) max-nodes n l
 
   -- They are the leaves beside a set that 000 allows, and none where it allows none.
-  pub generator-answered : (c : ℕ) → c < length (columns (formula q)) → (a : Leaves) × Answered (getD (columns (formula q)) c 0) (cp (formula q)) 0 a × (getD (judged q .generators) c 0 ≡ node-mask (leaves a))
-  generator-answered c h = let x : ℕ = getD (columns (formula q)) c 0 in (plain (cp (formula q)) 0 x, plain-answered (cp (formula q)) 0 x, number-at (formula q) c h)
+  pub generator-right : (c : ℕ) → c < length (columns (formula q)) → (a : Leaves) × LeavesRight (getD (columns (formula q)) c 0) (cp (formula q)) 0 a × (getD (judged q .generators) c 0 ≡ node-mask (leaves a))
+  generator-right c h = let x : ℕ = getD (columns (formula q)) c 0 in (plain (cp (formula q)) 0 x, plain-right (cp (formula q)) 0 x, number-at (formula q) c h)
 
   -- Each of them is a record of the form, or an equality of a variable with a constant.
   pub generator-atom : (c n : ℕ) → c < length (columns (formula q)) → n < max-nodes → has max-nodes (getD (judged q .generators) c 0) n ≡ true → AtNode Ap (cp (formula q)) 0 n
   generator-atom c n h l e =
       let x : ℕ = getD (columns (formula q)) c 0 in
-      leaf-of (plain-answered (cp (formula q)) 0 x) n (reflected (reflects-member n (leaves (plain (cp (formula q)) 0 x))) (subst⁻¹ T (sym (generator-bit c n h l) ∙ e) tt))
+      leaf-of (plain-right (cp (formula q)) 0 x) n (reflected (reflects-member n (leaves (plain (cp (formula q)) 0 x))) (subst⁻¹ T (sym (generator-bit c n h l) ∙ e) tt))
 
   -- The free variables as read that aren't generated in the form.
   pub ungenerated-bit : (x : ℕ) → x < 16 → Reflects (In x (fv (formula q)) × ¬ Generated x (cp (formula q))) (has 16 (judged q .ungenerated) x)

@@ -20,9 +20,9 @@ use Rattle.calculus.specs.Generators.Laws.{reflects-none, generated-deci
 use Rattle.calculus.specs.SafeRange.{SafeRange}
 use Rattle.calculus.specs.Order.{Ascending}
 use Rattle.calculus.specs.Order.Laws.{ltb-order, sort-members, sort-ascending}
-use Rattle.calculus.specs.Rows.{Row, row-env, Answer, Endless, endless, listed}
+use Rattle.calculus.specs.Rows.{Row, row-env, RowSat, Endless, endless, listed}
 use Rattle.calculus.specs.Rows.Laws.{row-env-column}
-use Rattle.calculus.specs.Evaluation.{rows-over, answers}
+use Rattle.calculus.specs.Evaluation.{rows-over, query-result}
 use Rattle.calculus.specs.Evaluation.Laws.{endless-exactly, endless-reflects}
 
 -- ---- columns
@@ -103,7 +103,7 @@ safe-reflects φ = reflects-map sound complete (reflects-and (reflects-empty (ve
 
 module _ (pool : Pool) (D : Database) (φ : Fmla) (s : SafeRange φ) where
   -- Every value of every row is in a record of a relation that the query names, or is a constant of it.
-  pub safe-values : (w : Row) → Answer pool D φ (columns φ) w → (v : ℕ) → In v w → Known pool D φ v
+  pub safe-values : (w : Row) → RowSat pool D φ (columns φ) w → (v : ℕ) → In v w → Known pool D φ v
   safe-values w a v i = subst (Known pool D φ) (col .2) (known-means pool D φ (row-env (columns φ) w c) .0 (known-cp pool D φ (row-env (columns φ) w c) (generated-known pool D c (cp φ) generated (row-env (columns φ) w) holds-form)))
     where
       col : (c : ℕ) × In c (columns φ) × (row-env (columns φ) w c ≡ v)
@@ -123,5 +123,5 @@ module _ (pool : Pool) (D : Database) (φ : Fmla) (s : SafeRange φ) where
   safe-not-endless e = let h = endless-exactly pool D φ (columns φ) (fv-columns φ) .0 e in h .2 .2 (safe-values (h .0) (h .1) (h .2 .0) (h .2 .1))
 
   -- So its rows are listed: all that satisfy it over all whole numbers and no other, by `rows-members`.
-  pub safe-listed : answers pool D φ (columns φ) ≡ listed (rows-over pool D (known pool D φ) φ (columns φ))
+  pub safe-listed : query-result pool D φ (columns φ) ≡ listed (rows-over pool D (known pool D φ) φ (columns φ))
   safe-listed = ap (λ b. cond b endless (listed (rows-over pool D (known pool D φ) φ (columns φ)))) (reflects-false (endless-reflects pool D (known pool D φ) φ (columns φ) (λ v i. i) (fv-columns φ)) safe-not-endless)
