@@ -23,7 +23,7 @@ extern uint64_t palmrummy_change(const uint8_t *widths, const uint8_t *relations
                                  size_t left_room);
 #endif
 
-enum { NODES = 64, STACK = 1 << 20, BOUND = 220 * 1024, CHANGE_BOUND = 340 * 1024, HOST_BOUND = 240 * 1024, ROOM = 4096, RECORDS = 2, NUMBERS = 2048 };
+enum { NODES = 64, STACK = 1 << 20, BOUND = 224 * 1024, CHANGE_BOUND = 340 * 1024, HOST_BOUND = 240 * 1024, ROOM = 4096, RECORDS = 2, NUMBERS = 2048 };
 
 static uint8_t widths[16] = {0, 2}, relations[256] = {1, 1};
 static uint32_t values[1024] = {0, 7, 0, 0, 7, 0, 0, 0};
@@ -75,7 +75,7 @@ static void chain(const char *pattern, uint32_t nodes) {
 }
 
 #ifdef HOST
-static uint8_t input[PALMRUMMY_INPUT_RECORDS + PALMRUMMY_RECORD * RECORDS + sizeof bytes], verdict[PALMRUMMY_VERDICT], answers[PALMRUMMY_ANSWER_MOST];
+static uint8_t input[PALMRUMMY_INPUT_RECORDS + PALMRUMMY_RECORD * RECORDS + sizeof bytes], verdict[PALMRUMMY_VERDICT], answers[4 * ROOM];
 
 // The widths, the records and the query as a packed input; its length.
 static size_t packed(void) {
@@ -93,13 +93,13 @@ static size_t packed(void) {
 
 static void *answer(void *unused) {
     (void)unused;
-    refused += palmrummy_is_refused(palmrummy_answer(input, packed(), answers, sizeof answers));
+    refused += palmrummy_answer_is_refused(palmrummy_answer(input, packed(), answers, sizeof answers));
     return NULL;
 }
 
 static void *judge(void *unused) {
     (void)unused;
-    refused += palmrummy_is_refused(palmrummy_verdict(input, packed(), verdict));
+    refused += palmrummy_verdict_is_refused(palmrummy_verdict(input, packed(), verdict));
     return NULL;
 }
 #else

@@ -14,35 +14,38 @@
 // One byte more than the longest input: the engine tells a longer one by its length.
 static uint8_t input[PALMRUMMY_INPUT_MOST + 1];
 static uint8_t verdict[PALMRUMMY_VERDICT];
-static uint8_t answer[PALMRUMMY_ANSWER_MOST];
+
+// The list program's room: an answer is refused 18 where that program refuses it.
+enum { NUMBERS = 4096 };
+static uint8_t answer[4 * NUMBERS];
 
 static int failed(const char *what) {
     fprintf(stderr, "menu_line: %s: %s\n", what, strerror(errno));
     return EXIT_FAILURE;
 }
 
-static void print_refusal(uint32_t reply) {
+static void print_refusal(uint64_t reply) {
     printf("refused %" PRIu32 " %" PRIu32 "\n", palmrummy_refusal_number(reply), palmrummy_refusal_place(reply));
 }
 
-static void print_rows(uint32_t rows, size_t columns) {
+static void print_rows(uint64_t rows, size_t columns) {
     for (size_t r = 0; r < rows; r++) {
         fputs("row", stdout);
         for (size_t c = 0; c < columns; c++) printf(" %" PRIu32, palmrummy_value(answer, r * columns + c));
         putchar('\n');
     }
-    printf("rows %" PRIu32 "\n", rows);
+    printf("rows %" PRIu64 "\n", rows);
 }
 
 // The lines for an input of so many bytes. Nothing is printed before both replies are there: a refusal is one line.
 static void print_lines(size_t length) {
     uint32_t judged = palmrummy_verdict(input, length, verdict);
-    if (palmrummy_is_refused(judged)) {
+    if (palmrummy_verdict_is_refused(judged)) {
         print_refusal(judged);
         return;
     }
-    uint32_t found = palmrummy_answer(input, length, answer, sizeof answer);
-    if (palmrummy_is_refused(found)) {
+    uint64_t found = palmrummy_answer(input, length, answer, sizeof answer);
+    if (palmrummy_answer_is_refused(found)) {
         print_refusal(found);
         return;
     }
@@ -51,7 +54,7 @@ static void print_lines(size_t length) {
     fputs("columns", stdout);
     for (size_t c = 0; c < columns; c++) printf(" %d", verdict[PALMRUMMY_VERDICT_VARIABLES + c]);
     putchar('\n');
-    if (palmrummy_is_endless(found))
+    if (palmrummy_answer_is_endless(found))
         puts("endless");
     else
         print_rows(found, columns);

@@ -54,19 +54,23 @@ extern "C" {
 // ---- Numbers returned ----------------------------------------------------------------------------------------------
 //
 //   palmrummy_verdict   0 where the verdict is written
-//   palmrummy_answer    the number of rows, where they are written: 0 to 4,096
-//                       2^31 where infinitely many rows satisfy the query (endless)
-//   both                2^31 + 256 × number + place for a refusal
-#define PALMRUMMY_ENDLESS UINT32_C(0x80000000)
+//   (32 bits)           2^31 + 256 × number + place for a refusal
+//   palmrummy_answer    the number of rows, where they are written: below 2^63, however long the lent output is
+//   (64 bits)           2^63 where infinitely many rows satisfy the query (endless)
+//                       2^63 + 256 × number + place for a refusal
+#define PALMRUMMY_REFUSED UINT32_C(0x80000000)
+#define PALMRUMMY_ENDLESS UINT64_C(0x8000000000000000)
 
-static inline bool palmrummy_is_endless(uint32_t reply) { return reply == PALMRUMMY_ENDLESS; }
+static inline bool palmrummy_verdict_is_refused(uint32_t reply) { return reply > PALMRUMMY_REFUSED; }
 
-static inline bool palmrummy_is_refused(uint32_t reply) { return reply > PALMRUMMY_ENDLESS; }
+static inline bool palmrummy_answer_is_endless(uint64_t reply) { return reply == PALMRUMMY_ENDLESS; }
 
-// The number of a refusal's cause, and its place: a node of the query as read, or 0. For refusals only.
-static inline uint32_t palmrummy_refusal_number(uint32_t reply) { return (reply - PALMRUMMY_ENDLESS) / 256; }
+static inline bool palmrummy_answer_is_refused(uint64_t reply) { return reply > PALMRUMMY_ENDLESS; }
 
-static inline uint32_t palmrummy_refusal_place(uint32_t reply) { return reply % 256; }
+// The number of a refusal's cause, and its place: a node of the query as read, or 0. For refusals of either entry.
+static inline uint32_t palmrummy_refusal_number(uint64_t reply) { return (uint32_t)(reply / 256 % 256); }
+
+static inline uint32_t palmrummy_refusal_place(uint64_t reply) { return (uint32_t)(reply % 256); }
 
 // The causes that the entries can meet, with the numbers of document 01's table, in the order in which they are judged,
 // each over the whole input. 13 and 15 are judged together, record by record. The other causes of that table (11, 12,
@@ -140,11 +144,9 @@ static inline size_t palmrummy_query_length(const uint8_t *query) {
 // variable, 4 bytes. Rows ascend strictly, by the first column, then by the second, and so on. Without columns a row
 // has no bytes: the reply is 1 where the query is satisfied and 0 where not.
 //
-// The room is the output's length / 4 numbers, rounded down, and at most 4,096, as in the list program. So 16,384 bytes
-// take every answer that isn't refused for a room of 4,096: what is refused 18 with them is refused 18 with any output.
-// An endless answer and one without columns need no room.
-#define PALMRUMMY_ROOM_MOST 4096     // numbers of an answer
-#define PALMRUMMY_ANSWER_MOST 16384  // bytes of an answer
+// The room is the output's length / 4 numbers, rounded down, however long the output is: an answer is refused 18 just
+// where rows × columns exceed it. An endless answer and one without columns need no room. The list program's room is
+// 4,096 numbers: with an output of 16,384 bytes, what it refuses 18 is refused 18 here, and nothing else is.
 
 // The i-th number of an answer: with k columns, row r has the numbers k × r to k × r + k - 1.
 static inline uint32_t palmrummy_value(const uint8_t *out, size_t i) {
@@ -175,7 +177,7 @@ static inline uint32_t palmrummy_value(const uint8_t *out, size_t i) {
 uint32_t palmrummy_verdict(const uint8_t *input, size_t length, uint8_t out[PALMRUMMY_VERDICT]);
 
 // The rows that satisfy the query of a packed input over its records, into the `room` bytes at `out`.
-uint32_t palmrummy_answer(const uint8_t *input, size_t length, uint8_t *out, size_t room);
+uint64_t palmrummy_answer(const uint8_t *input, size_t length, uint8_t *out, size_t room);
 
 #ifdef __cplusplus
 }

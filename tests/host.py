@@ -1,6 +1,6 @@
 #!/usr/bin/env python3
-"""The C side of the host's entries: builds examples/menu_line.c and tests/host_fuzz.c over the static library, plain and
-with sanitizers, and runs them.
+"""The C side of the host's entries: builds examples/menu_line.c, tests/host_fuzz.c and tests/host_long.c over the
+static library, plain and with sanitizers, and runs them.
 
 host.py                 makes the library first, by `rt staticlib host`
 host.py --library PATH  takes this library
@@ -24,7 +24,8 @@ LIBRARY = ROOT / "target" / "staticlib" / "libhost.a"
 
 WARNINGS = ["-O2", "-Wall", "-Wextra", "-Wpedantic", "-Werror", "-I", ROOT / "include"]
 KINDS = {"plain": [], "sanitized": ["-fsanitize=address,undefined", "-fno-sanitize-recover=all", "-g"]}
-PROGRAMS = {"menu_line": ["examples/menu_line.c"], "host_fuzz": ["tests/host_fuzz.c", "tests/host_account.c"]}
+PROGRAMS = {"menu_line": ["examples/menu_line.c"], "host_fuzz": ["tests/host_fuzz.c", "tests/host_account.c"],
+            "host_long": ["tests/host_long.c"]}
 VALGRIND = ["valgrind", "-q", "--error-exitcode=99"]
 PATIENCE = 900  # seconds
 
@@ -32,8 +33,10 @@ PATIENCE = 900  # seconds
 CPP = """#include "palmrummy.h"
 int main() {
     uint8_t input[1] = {0}, out[PALMRUMMY_VERDICT] = {0};
-    uint32_t verdict = palmrummy_verdict(input, 0, out), answer = palmrummy_answer(input, 0, out, sizeof out);
-    return palmrummy_is_refused(verdict) && palmrummy_refusal_number(verdict) == 2 && answer == verdict ? 0 : 1;
+    uint32_t verdict = palmrummy_verdict(input, 0, out);
+    uint64_t answer = palmrummy_answer(input, 0, out, sizeof out);
+    return palmrummy_verdict_is_refused(verdict) && palmrummy_refusal_number(verdict) == 2 &&
+           palmrummy_answer_is_refused(answer) && palmrummy_refusal_number(answer) == 2 ? 0 : 1;
 }
 """
 
@@ -94,6 +97,12 @@ def fuzzes(command, inputs, seed, first=0):
     return None if reply[0] == 0 and last and re.fullmatch(right, last[0]) else shown(*reply)
 
 
+def long_answers(*command):
+    reply = run(command)
+    right = reply[0] == 0 and re.fullmatch(rb"host long: [1-9]\d* calls, 0 failed\n", reply[1])
+    return None if right else shown(*reply)
+
+
 # ---- what is run
 
 
@@ -117,6 +126,13 @@ def fuzz_jobs(counts, seed):
     yield "fuzz, plain, first half", fuzzes, [program], half, seed
     yield "fuzz, plain, second half", fuzzes, [program], plain - half, seed, half
     yield "fuzz, sanitized", fuzzes, [BUILT / "sanitized" / "host_fuzz"], sanitized, seed + 1
+
+
+def long_jobs():
+    plain, sanitized = BUILT / "plain" / "host_long", BUILT / "sanitized" / "host_long"
+    yield "long answers", long_answers, plain
+    yield "long answers, sanitized", long_answers, sanitized
+    yield "long answers under valgrind", long_answers, *VALGRIND, plain, 10000
 
 
 def example_jobs(found):
@@ -167,7 +183,7 @@ def main():
         if failed:
             found, counts = [], (0, 0, 0)
         else:
-            failed = failures(pool, [*fuzz_jobs(counts, options.seed), *example_jobs(found)])
+            failed = failures(pool, [*fuzz_jobs(counts, options.seed), *long_jobs(), *example_jobs(found)])
             if not found:
                 print("host: no example has an expected output")
                 failed += 1

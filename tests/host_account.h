@@ -77,7 +77,10 @@ size_t known_values(const Account *a, bool all, uint32_t known[KNOWN_MOST]);
 // An estimate from above of the nodes that an answer looks at, where every value is tried for every variable.
 double cost(const Account *a);
 
-// What an answer with room for 4,096 numbers replies, and these numbers. It takes as long as the cost says.
-uint32_t account_answer(const Account *a, uint32_t numbers[PALMRUMMY_ROOM_MOST]);
+// How many of an answer's rows satisfy the query, from the first on up to one that doesn't.
+uint64_t account_satisfied(const Account *a, const uint8_t *out, uint64_t rows);
+
+// What an answer with room for so many numbers replies, and these numbers. It takes as long as the cost says.
+uint64_t account_answer(const Account *a, uint32_t *numbers, size_t room);
 
 #endif

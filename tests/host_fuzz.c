@@ -2,8 +2,9 @@
 // call replies, writes and leaves is held to include/palmrummy.h.
 //
 // Refusals and verdicts are compared, byte for byte, with the account of host_account.h, and so are answers where there
-// is little to try. The answer with 16,384 bytes decides what every other length must reply. Every call is made twice,
-// over outputs that differ everywhere, with guard bytes on both sides; an input ends where readable memory ends.
+// is little to try. The answer with 16,384 bytes, or with far more where they are too few, decides what every other
+// length must reply. Every call is made twice, over outputs that differ everywhere, with guard bytes on both sides; an
+// input ends where readable memory ends.
 //
 // Usage: host_fuzz [INPUTS [SEED [FIRST]]]. An input depends on the seed and on its own number only, so that
 // `host_fuzz 1 SEED NUMBER` tries one again. The exit status is 1 where a check fails.
@@ -426,14 +427,16 @@ static void make_longest(Input *in, Made *made) {
     made->safe = true;
 }
 
-// All pairs of the records of two relations: near 4,096 numbers, so that there is room just so or just not.
+// All pairs of the records of two relations: near 2,048, 4,096 or 16,384 numbers, so that there is room just so or just
+// not in many an output; or as many as 256 records have.
 static void make_product(Input *in, Made *made) {
+    static const uint32_t near[] = {2048, 4096, 4096, 16384, 65536};
     any_surroundings(4);
     uint32_t a = below(16), b = (a + between(1, 15)) % 16, columns = between(2, 4), wide = between(1, columns - 1);
     over.widths[a] = (uint8_t)wide;
     over.widths[b] = (uint8_t)(columns - wide);
     uint32_t n = chance(50) ? 1u << between(4, 7) : between(16, 200);
-    uint32_t m = PALMRUMMY_ROOM_MOST / columns / n + (chance(40) ? below(4) : 0);
+    uint32_t m = near[below(5)] / columns / n + (chance(40) ? below(4) : 0);
     if (m > PALMRUMMY_RECORDS_MOST - n) m = PALMRUMMY_RECORDS_MOST - n;
     begin(in);
     for (uint32_t i = 0; i < n + m; i++) {
@@ -635,7 +638,8 @@ static Made make_input(Input *in) {
 
 // ---- Calls ---------------------------------------------------------------------------------------------------------
 
-enum { GUARD = 64, LENT = 40000 };
+// The list program's room, in bytes, and the most that is lent: more than any answer over two relations of 256 records.
+enum { GUARD = 64, USUAL = 16384, LENT = 300000 };
 
 static uint64_t seed, at_number;
 static const Input *at_input;  // what a failure prints
@@ -702,7 +706,7 @@ static bool ask_verdict(const Input *in, uint32_t *reply, uint8_t *out) {
         lend(PALMRUMMY_VERDICT, fill);
         uint32_t told = palmrummy_verdict(bytes, in->length, lent + GUARD);
         size_t written = told == 0 ? PALMRUMMY_VERDICT : 0;
-        CHECK(told == 0 || palmrummy_is_refused(told), "verdict: reply %08" PRIx32, told);
+        CHECK(told == 0 || palmrummy_verdict_is_refused(told), "verdict: reply %08" PRIx32, told);
         CHECK(memcmp(bytes, in->bytes, in->length) == 0, "verdict: the input is altered");
         CHECK(is_left(PALMRUMMY_VERDICT, written, fill), "verdict: reply %08" PRIx32 " and bytes altered", told);
         CHECK(fill == 0 || told == *reply, "verdict: first %08" PRIx32 ", then %08" PRIx32, *reply, told);
@@ -714,17 +718,17 @@ static bool ask_verdict(const Input *in, uint32_t *reply, uint8_t *out) {
 }
 
 // An answer over columns, twice too. Its bytes are handed back: rows × columns × 4 of them.
-static bool ask_answer(const Input *in, uint32_t columns, size_t room, uint32_t *reply, uint8_t *out) {
+static bool ask_answer(const Input *in, uint32_t columns, size_t room, uint64_t *reply, uint8_t *out) {
     for (int fill = 0; fill < 2; fill++) {
         const uint8_t *bytes = place(in);
         lend(room, fill);
-        uint32_t told = palmrummy_answer(bytes, in->length, lent + GUARD, room);
+        uint64_t told = palmrummy_answer(bytes, in->length, lent + GUARD, room);
         size_t written = told < PALMRUMMY_ENDLESS ? (size_t)told * columns * 4 : 0;
-        CHECK(written <= room, "answer into %zu bytes: %" PRIu32 " rows", room, told);
-        CHECK(told >= PALMRUMMY_ENDLESS || columns > 0 || told <= 1, "%" PRIu32 " rows without columns", told);
+        CHECK(written <= room, "answer into %zu bytes: %" PRIu64 " rows", room, told);
+        CHECK(told >= PALMRUMMY_ENDLESS || columns > 0 || told <= 1, "%" PRIu64 " rows without columns", told);
         CHECK(memcmp(bytes, in->bytes, in->length) == 0, "answer into %zu bytes: the input is altered", room);
-        CHECK(is_left(room, written, fill), "answer into %zu bytes: reply %08" PRIx32 " and bytes altered", room, told);
-        CHECK(fill == 0 || told == *reply, "answer into %zu bytes: first %08" PRIx32 ", then %08" PRIx32, room, *reply,
+        CHECK(is_left(room, written, fill), "answer into %zu bytes: reply %" PRIx64 " and bytes altered", room, told);
+        CHECK(fill == 0 || told == *reply, "answer into %zu bytes: first %" PRIx64 ", then %" PRIx64, room, *reply,
               told);
         CHECK(fill == 0 || memcmp(out, lent + GUARD, written) == 0, "answer into %zu bytes: other rows then", room);
         *reply = told;
@@ -812,8 +816,8 @@ static bool is_among(uint32_t value, const uint32_t *values, size_t count) {
     return false;
 }
 
-// The rows of an answer: strictly ascending, of known values.
-static bool check_rows(const Account *a, uint32_t rows, uint32_t columns, const uint8_t *out) {
+// The rows of an answer: strictly ascending, of known values; and satisfying the query, where it has no exists to try.
+static bool check_rows(const Account *a, uint64_t rows, uint32_t columns, const uint8_t *out) {
     static uint32_t known[KNOWN_MOST];
     size_t count = known_values(a, false, known);
     for (size_t i = 0; i < (size_t)rows * columns; i++) {
@@ -822,14 +826,16 @@ static bool check_rows(const Account *a, uint32_t rows, uint32_t columns, const 
     }
     for (size_t r = 1; columns > 0 && r < rows; r++)
         CHECK(memcmp(out + 4 * columns * (r - 1), out + 4 * columns * r, 4 * columns) < 0, "row %zu: its order", r);
+    uint64_t right = a->depth[a->nodes - 1] > 0 ? rows : account_satisfied(a, out, rows);
+    CHECK(right == rows, "row %" PRIu64 ": it doesn't satisfy the query", right);
     return true;
 }
 
 // The account's own answer: the same.
-static bool check_account(const Account *a, uint32_t reply, uint32_t columns, const uint8_t *out) {
-    static uint32_t numbers[PALMRUMMY_ROOM_MOST];
-    uint32_t wanted = account_answer(a, numbers);
-    CHECK(reply == wanted, "answer: %08" PRIx32 ", not %08" PRIx32, reply, wanted);
+static bool check_account(const Account *a, uint64_t reply, uint32_t columns, const uint8_t *out) {
+    static uint32_t numbers[LENT / 4];
+    uint64_t wanted = account_answer(a, numbers, LENT / 4);
+    CHECK(reply == wanted, "answer: %" PRIx64 ", not %" PRIx64, reply, wanted);
     for (size_t i = 0; reply < PALMRUMMY_ENDLESS && i < (size_t)reply * columns; i++)
         CHECK(palmrummy_value(out, i) == numbers[i], "row %zu: another than in the account", i / columns);
     return true;
@@ -837,40 +843,51 @@ static bool check_account(const Account *a, uint32_t reply, uint32_t columns, co
 
 // Lengths of lent outputs, where an answer needs so many bytes.
 static size_t any_lengths(size_t need, bool dear, size_t *lengths) {
-    static const size_t fixed[] = {1, 3, 4, 5, 8, 12, 16383, 16385, 16388};
+    static const size_t fixed[] = {1, 3, 4, 5, 8, 12, USUAL - 1, USUAL, USUAL + 1, USUAL + 4};
     size_t n = 0;
     lengths[n++] = 0;
     lengths[n++] = need;
     lengths[n++] = need + between(1, 8);
     if (need > 0) lengths[n++] = need - 1;
-    lengths[n++] = between(PALMRUMMY_ANSWER_MOST, LENT);
+    lengths[n++] = between(USUAL, chance(5) ? LENT : 2 * USUAL);
     if (dear) return n;
     if (need >= 4) lengths[n++] = need - 4;
     lengths[n++] = below(64);
     lengths[n++] = below(2048);
-    lengths[n++] = below(PALMRUMMY_ANSWER_MOST);
+    lengths[n++] = below(USUAL);
     for (size_t i = 0; i < sizeof fixed / sizeof fixed[0]; i++) lengths[n++] = fixed[i];
     return n;
 }
 
-// The answers with other lengths, as that with 16,384 bytes decides them.
-static bool check_lengths(const Input *in, uint32_t columns, uint32_t reply, const uint8_t *out, bool dear) {
+static const uint64_t NO_ROOM = PALMRUMMY_ENDLESS + 256 * PALMRUMMY_CAUSE_ROOM;
+
+// The answers with other lengths, as the one that was asked for first decides them.
+static bool check_lengths(const Input *in, uint32_t columns, uint64_t reply, const uint8_t *out, bool dear) {
     static uint8_t other[LENT];
     size_t lengths[24], numbers = reply < PALMRUMMY_ENDLESS ? (size_t)reply * columns : 0;
     size_t count = any_lengths(4 * numbers, dear, lengths);
     for (size_t i = 0; i < count; i++) {
-        uint32_t told, wanted = numbers <= lengths[i] / 4 ? reply : PALMRUMMY_ENDLESS + 256 * PALMRUMMY_CAUSE_ROOM;
+        uint64_t told, wanted = numbers <= lengths[i] / 4 ? reply : NO_ROOM;
         if (!ask_answer(in, columns, lengths[i], &told, other)) return false;
-        CHECK(told == wanted, "answer into %zu bytes: %08" PRIx32 ", but %08" PRIx32 " into 16,384", lengths[i], told,
-              reply);
+        CHECK(told == wanted, "answer into %zu bytes: %" PRIx64 ", but %" PRIx64 " at first", lengths[i], told, reply);
         CHECK(told >= PALMRUMMY_ENDLESS || memcmp(out, other, 4 * numbers) == 0, "answer into %zu bytes: other rows",
               lengths[i]);
     }
     return true;
 }
 
+// An answer with the usual room, or with all where that doesn't do; and that room.
+static bool ask_first(const Input *in, uint32_t columns, size_t *room, uint64_t *reply, uint8_t *out) {
+    *room = USUAL;
+    if (!ask_answer(in, columns, *room, reply, out)) return false;
+    if (*reply != NO_ROOM) return true;
+    *room = LENT;
+    return ask_answer(in, columns, *room, reply, out);
+}
+
 // The same records in another order, with a repeat: the same answer.
-static bool check_order(const Input *in, const Account *a, uint32_t columns, uint32_t reply, const uint8_t *out) {
+static bool check_order(const Input *in, const Account *a, uint32_t columns, size_t room, uint64_t reply,
+                        const uint8_t *out) {
     static Input mixed;
     static uint8_t other[LENT];
     size_t records = PALMRUMMY_RECORD * (size_t)a->records, head = PALMRUMMY_INPUT_RECORDS;
@@ -883,9 +900,9 @@ static bool check_order(const Input *in, const Account *a, uint32_t columns, uin
     write_number(mixed.bytes + PALMRUMMY_INPUT_COUNT, a->records + 1, 2);
     memcpy(mixed.bytes + head + records + PALMRUMMY_RECORD, a->query, in->length - head - records);
     mixed.length = in->length + PALMRUMMY_RECORD;
-    uint32_t told;
-    if (!ask_answer(&mixed, columns, PALMRUMMY_ANSWER_MOST, &told, other)) return false;
-    CHECK(told == reply, "records in another order: %08" PRIx32 ", not %08" PRIx32, told, reply);
+    uint64_t told;
+    if (!ask_answer(&mixed, columns, room, &told, other)) return false;
+    CHECK(told == reply, "records in another order: %" PRIx64 ", not %" PRIx64, told, reply);
     size_t bytes = told < PALMRUMMY_ENDLESS ? 4 * (size_t)told * columns : 0;
     CHECK(memcmp(out, other, bytes) == 0, "records in another order: other rows");
     return true;
@@ -893,7 +910,7 @@ static bool check_order(const Input *in, const Account *a, uint32_t columns, uin
 
 // The form over the same records: the same answer where it has the same columns. A column that it lacks can have any
 // value, so that one row is infinitely many.
-static bool check_form_answer(const Input *in, const Account *a, const Input *form, uint32_t reply,
+static bool check_form_answer(const Input *in, const Account *a, const Input *form, size_t room, uint64_t reply,
                               const uint8_t *out) {
     static Input with;
     static Account f;
@@ -903,14 +920,15 @@ static bool check_form_answer(const Input *in, const Account *a, const Input *fo
     memcpy(with.bytes + head, form->bytes + PALMRUMMY_INPUT_RECORDS, query);
     with.length = head + query;
     judge_input(&f, &with);
-    uint32_t told, columns = ones(f.columns);
-    if (!ask_answer(&with, columns, PALMRUMMY_ANSWER_MOST, &told, other)) return false;
+    uint32_t columns = ones(f.columns);
+    uint64_t told;
+    if (!ask_answer(&with, columns, room, &told, other)) return false;
     if (f.columns == a->columns) {
-        CHECK(told == reply, "the form over the records: %08" PRIx32 ", not %08" PRIx32, told, reply);
+        CHECK(told == reply, "the form over the records: %" PRIx64 ", not %" PRIx64, told, reply);
         size_t bytes = told < PALMRUMMY_ENDLESS ? 4 * (size_t)told * columns : 0;
         CHECK(memcmp(out, other, bytes) == 0, "the form over the records: other rows");
     } else {
-        CHECK(reply == (told == 0 ? 0 : PALMRUMMY_ENDLESS), "a column not in the form: %08" PRIx32, reply);
+        CHECK(reply == (told == 0 ? 0 : PALMRUMMY_ENDLESS), "a column not in the form: %" PRIx64, reply);
     }
     return true;
 }
@@ -918,7 +936,7 @@ static bool check_form_answer(const Input *in, const Account *a, const Input *fo
 // ---- One input -----------------------------------------------------------------------------------------------------
 
 static struct {
-    uint64_t inputs, accepted, refused, endless, safe, some_rows, compared, unanswered, failed;
+    uint64_t inputs, accepted, refused, endless, safe, some_rows, long_answers, compared, unanswered, failed;
     uint64_t numbers[256];
 } tally;
 
@@ -926,7 +944,9 @@ static bool check_accepted(const Input *in, const Account *a, const Made *made, 
     static Input form;
     static uint8_t out[LENT];
     bool safe = v[PALMRUMMY_VERDICT_SAFE] == 1;
-    uint32_t columns = v[PALMRUMMY_VERDICT_COLUMNS], reply;
+    uint32_t columns = v[PALMRUMMY_VERDICT_COLUMNS];
+    uint64_t reply;
+    size_t room;
     if (!check_verdict(in, a, v, &form)) return false;
     CHECK(safe || !made->safe, "unsafe, but made safe-range");
     tally.safe += safe;
@@ -935,37 +955,37 @@ static bool check_accepted(const Input *in, const Account *a, const Made *made, 
         tally.unanswered++;
         return true;
     }
-    if (!ask_answer(in, columns, PALMRUMMY_ANSWER_MOST, &reply, out)) return false;
-    uint32_t no_room = PALMRUMMY_ENDLESS + 256 * PALMRUMMY_CAUSE_ROOM;
-    CHECK(reply <= PALMRUMMY_ENDLESS || reply == no_room, "accepted, but the answer is %08" PRIx32, reply);
+    if (!ask_first(in, columns, &room, &reply, out)) return false;
+    CHECK(reply <= PALMRUMMY_ENDLESS || reply == NO_ROOM, "accepted, but the answer is %" PRIx64, reply);
     CHECK(!safe || reply != PALMRUMMY_ENDLESS, "safe and endless");
-    CHECK(columns > 0 || reply <= 1, "no columns: %08" PRIx32, reply);
-    if (made->counted) {
-        uint32_t wanted = made->rows * columns <= PALMRUMMY_ROOM_MOST ? made->rows : no_room;
-        CHECK(reply == wanted, "%" PRIu32 " rows were made, and the answer is %08" PRIx32, made->rows, reply);
-    }
+    CHECK(columns > 0 || reply <= 1, "no columns: %" PRIx64, reply);
+    CHECK(!made->counted || reply == made->rows, "%" PRIu32 " rows were made, not %" PRIx64, made->rows, reply);
     tally.endless += reply == PALMRUMMY_ENDLESS;
-    tally.numbers[PALMRUMMY_CAUSE_ROOM] += reply == no_room;
+    tally.numbers[PALMRUMMY_CAUSE_ROOM] += room == LENT;
     tally.some_rows += reply > 0 && reply < PALMRUMMY_ENDLESS;
-    bool dear = steps > DEAR || reply == no_room || (reply < PALMRUMMY_ENDLESS && reply > 200);
+    tally.long_answers += room == LENT && reply < PALMRUMMY_ENDLESS;
+    bool dear = steps > DEAR || reply == NO_ROOM || (reply < PALMRUMMY_ENDLESS && reply > 200);
     if (reply < PALMRUMMY_ENDLESS && !check_rows(a, reply, columns, out)) return false;
     if (cost(a) <= CHEAP) {
         tally.compared++;
         if (!check_account(a, reply, columns, out)) return false;
     }
     if (!check_lengths(in, columns, reply, out, dear)) return false;
-    return check_order(in, a, columns, reply, out) && check_form_answer(in, a, &form, reply, out);
+    return check_order(in, a, columns, room, reply, out) && check_form_answer(in, a, &form, room, reply, out);
 }
 
 // A refused input: the same refusal from both, whatever is lent.
-static bool check_refused(const Input *in, uint32_t refusal) {
+static bool check_refused(const Input *in, uint32_t number, uint32_t place) {
     static uint8_t out[LENT];
-    const size_t lengths[] = {0, 1, 4, below(64), below(LENT), PALMRUMMY_ANSWER_MOST, PALMRUMMY_ANSWER_MOST + 1};
+    const size_t lengths[] = {0, 1, 4, below(64), below(2 * USUAL), USUAL, USUAL + 1};
+    const uint64_t refusal = PALMRUMMY_ENDLESS + 256 * number + place;
     for (size_t i = 0; i < sizeof lengths / sizeof lengths[0]; i++) {
-        uint32_t reply;
+        uint64_t reply;
         if (!ask_answer(in, 1, lengths[i], &reply, out)) return false;
-        CHECK(reply == refusal, "answer into %zu bytes: %08" PRIx32 ", but the verdict %08" PRIx32, lengths[i], reply,
-              refusal);
+        CHECK(reply == refusal, "answer into %zu bytes: %" PRIx64 ", not %" PRIx64, lengths[i], reply, refusal);
+        CHECK(palmrummy_answer_is_refused(reply) && palmrummy_refusal_number(reply) == number &&
+                  palmrummy_refusal_place(reply) == place,
+              "the number and the place of %" PRIx64, reply);
     }
     return true;
 }
@@ -974,14 +994,16 @@ static bool check_input(const Input *in, const Made *made) {
     static Account a;
     static uint8_t v[PALMRUMMY_VERDICT];
     judge_input(&a, in);
-    uint32_t wanted = a.number == 0 ? 0 : PALMRUMMY_ENDLESS + 256 * a.number + a.place, reply;
+    uint32_t wanted = a.number == 0 ? 0 : PALMRUMMY_REFUSED + 256 * a.number + a.place, reply;
     if (!ask_verdict(in, &reply, v)) return false;
     CHECK(reply == wanted, "verdict: reply %08" PRIx32 ", not %08" PRIx32, reply, wanted);
     CHECK(a.number == 0 || palmrummy_has_node(a.number) || a.place == 0, "a place for cause %" PRIu32, a.number);
     tally.numbers[a.number]++;
     if (reply == 0) return tally.accepted++, check_accepted(in, &a, made, v);
     tally.refused++;
-    return check_refused(in, reply);
+    CHECK(palmrummy_refusal_number(reply) == a.number && palmrummy_refusal_place(reply) == a.place,
+          "the number and the place of %08" PRIx32, reply);
+    return check_refused(in, a.number, a.place);
 }
 
 // ---- The run -------------------------------------------------------------------------------------------------------
@@ -1009,14 +1031,16 @@ static void set_up(void) {
 // Every refusal of the table, safe-range queries and others, rows and endless answers: many inputs meet all of them.
 static bool met_all(void) {
     static const uint8_t numbers[] = {1, 2, 3, 4, 5, 6, 7, 8, 9, 10, 13, 15, 18};
-    bool met = tally.safe > 0 && tally.safe < tally.accepted && tally.some_rows > 0 && tally.endless > 0;
+    bool met = tally.safe > 0 && tally.safe < tally.accepted && tally.some_rows > 0 && tally.endless > 0 &&
+               tally.long_answers > 0;
     printf("host fuzz: refusals");
     for (size_t i = 0; i < sizeof numbers; i++) {
         printf("%s %d: %" PRIu64, i > 0 ? "," : "", numbers[i], tally.numbers[numbers[i]]);
         met = met && tally.numbers[numbers[i]] > 0;
     }
-    printf("; safe %" PRIu64 ", some rows %" PRIu64 ", answers compared %" PRIu64 ", verdict only %" PRIu64 "\n",
-           tally.safe, tally.some_rows, tally.compared, tally.unanswered);
+    printf("; safe %" PRIu64 ", some rows %" PRIu64 ", of over 4,096 numbers %" PRIu64 ", answers compared %" PRIu64
+           ", verdict only %" PRIu64 "\n",
+           tally.safe, tally.some_rows, tally.long_answers, tally.compared, tally.unanswered);
     return met;
 }
 

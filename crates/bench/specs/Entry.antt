@@ -5,6 +5,7 @@ use mathlib.Core.List.{List}
 use lib.ListN.{getD}
 use Rattle.causes.specs.declared.Answer.{Answer}
 use Rattle.causes.specs.declared.Answer.the-variants.{Done, Refused}
+use Rattle.causes.specs.Causes.{number, place}
 use Rattle.tables.specs.declared.Record.{Record}
 use Rattle.tables.specs.declared.Store.{Store}
 use Rattle.answer.specs.declared.Found.{Found}
@@ -16,14 +17,14 @@ pub mod Laws
 abbrev pub store-with : List ℕ → List ℕ → List ℕ → ℕ → Store
 store-with ws rs vs n = record { widths = ws; relations = rs; values = vs; count = n }
 
--- A refusal: 2^63 + 256 × number + place.
+-- A refusal, by document 01's number and place: 2^63 + 256 × number + place.
 abbrev pub refusal : ℕ → ℕ → ℕ
 refusal n p = 9223372036854775808 + 256 * n + p
 
 -- 2^63 for endless, or a refusal, else the number of rows.
 abbrev pub code : Answer → Bool → ℕ → ℕ
 code Done endless rows = cond endless 9223372036854775808 rows
-code (Refused n p) endless rows = refusal n p
+code (Refused n p) endless rows = refusal (number (Refused n p)) (place (Refused n p))
 
 abbrev pub coded : Found × List ℕ → ℕ × List ℕ
 coded f = (code (f .0 .answer) (f .0 .endless) (f .0 .rows), f .1)
@@ -46,7 +47,7 @@ record-with r vs = record { relation = r; first = getD vs 0 0; second = getD vs 
 -- A refusal, else the numbers of rows that joined and left.
 abbrev pub change-code : Answer → ℕ → ℕ → ℕ
 change-code Done joined left = joined + 65536 * left
-change-code (Refused n p) joined left = refusal n p
+change-code (Refused n p) joined left = refusal (number (Refused n p)) (place (Refused n p))
 
 abbrev pub coded-change : Change × (List ℕ × List ℕ) → ℕ × (List ℕ × List ℕ)
 coded-change c = (change-code (c .0 .answer) (c .0 .joined) (c .0 .left), c .1)

@@ -75,6 +75,10 @@ size (exists z φ) = size φ + 1
 pub data Node : Type 0 where
   node : ℕ → Fmla → Node
 
+-- The number of a node.
+abbrev pub number-of : Node → ℕ
+number-of (node n φ) = n
+
 -- The nodes in document 01's order, numbered from n: left subtree, right subtree, parent. Without the numbers, 000's `sub` (2.4).
 abbrev pub nodes : Fmla → ℕ → List Node
 nodes (truth b) n = node n (truth b) ∷ []

@@ -1,6 +1,5 @@
 pub mod Sets
 pub mod Reflects
-pub mod Iff
 pub mod Lists
 pub mod Formula
 pub mod Satisfaction
@@ -8,6 +7,7 @@ pub mod Propagation
 pub mod Substitution
 pub mod Generation
 pub mod Generators
+pub mod Sources
 pub mod SafeRange
 pub mod Order
 pub mod Rows

@@ -1,5 +1,6 @@
 -- Safe-range queries: 000, 2.9, and document 01's widening. Definitions only; the laws are in SafeRange/Laws.antt.
 use Prim.Native.Nat.{ℕ}
+use mathlib.Core.Path.{_≡_}
 use Rattle.calculus.specs.Sets.{In}
 use Rattle.calculus.specs.Formula.{Fmla, exists, fv, node, nodes}
 use Rattle.calculus.specs.Propagation.{cp}
@@ -31,3 +32,7 @@ Sr φ = Rrf φ × Rrb φ
 -- the form in its child.
 abbrev pub SafeRange : Fmla → Type 0
 SafeRange φ = ((x : ℕ) → In x (fv φ) → Generated x (cp φ)) × Rrb (cp φ)
+
+-- The formula χ is an exists whose variable isn't generated in its child.
+abbrev pub Unranged : Fmla → Type 0
+Unranged χ = (z : ℕ) × (ψ : Fmla) × (χ ≡ exists z ψ) × ¬ Generated z ψ

@@ -37,7 +37,9 @@ subst-exists s z φ x y =
     (cond (eqb z y) (exists (fresh2 x y φ) (s (s φ z (fresh2 x y φ)) x y))
     (exists z (s φ x y)))
 
--- The substitution, at most n deep.
+-- The substitution, at most n deep: 000's equations, with a bound on the depth that lets them be a definition. The clause of 0 is never reached: a formula is
+-- substituted into with its height as the bound, each clause below goes one less deep, and renaming a bound variable leaves the height (`subst-truth` to
+-- `subst-at-exists` in the laws are 000's equations without a bound).
 abbrev pub subst-upto : ℕ → Fmla → ℕ → ℕ → Fmla
 subst-upto zero φ x y = φ
 subst-upto (suc n) (truth b) x y = truth b

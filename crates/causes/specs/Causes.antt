@@ -1,9 +1,11 @@
 -- Document 01's table of refusals, "When a call declines": checks run by number, and the first cause met is answered.
 -- Definitions only; the laws are in Causes/Laws.antt.
 use Prim.Native.Nat.{ℕ, zero, suc}
-use mathlib.Core.Bool.{Bool, true, false, cond}
+use mathlib.Core.Path.{_≡_}
+use mathlib.Core.Logic.{_↔_}
+use mathlib.Core.Bool.{Bool, true, false, cond, _&&_}
 use mathlib.Core.List.{List, [], _∷_}
-use lib.Dec.{leb}
+use lib.Dec.{leb, ltb}
 use Rattle.calculus.specs.Sets.{all-of}
 use Rattle.causes.specs.declared.Answer.{Answer}
 use Rattle.causes.specs.declared.Answer.the-variants.{Done, Refused}
@@ -55,3 +57,20 @@ number (Refused n p) = n
 abbrev pub place : Answer → ℕ
 place Done = 0
 place (Refused n p) = p
+
+-- ---- what the laws are stated with
+
+-- Every check is clear.
+abbrev pub AllClear : List Check → Type 0
+AllClear [] = Unit {0}
+AllClear (check n f ∷ cs) = (f ≡ clear) × AllClear cs
+
+-- Every check has a number above 0.
+abbrev pub numbered : List Check → Bool
+numbered [] = true
+numbered (check n f ∷ cs) = ltb 0 n && numbered cs
+
+-- P holds of exactly one number: that of the first cause that the checks meet, 0 for none. The checks name no place.
+pub record Judged (P : ℕ → Type 0) (cs : List Check) : Type 0 where
+  pub number-is : (a : ℕ) → P a ↔ (a ≡ number (first-cause cs))
+  pub place-is : place (first-cause cs) ≡ 0

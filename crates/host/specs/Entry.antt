@@ -1,32 +1,39 @@
 -- What the host's entries return and write, as include/palmrummy.h has it. Numbers are written high byte first. Definitions only; the laws are in Entry/Laws.antt.
-use Prim.Native.Nat.{ℕ, _+_, _*_, _/_, _%_, _≤_}
+use Prim.Native.Nat.{ℕ, _+_, _*_, _/_, _%_, _^_}
 use mathlib.Core.Bool.{Bool, cond}
 use mathlib.Core.List.{List, [], _∷_, _++_}
 use lib.ListN.{length, drop}
-use lib.Dec.{ltb}
 use Rattle.calculus.specs.Sets.{union-of}
 use Rattle.calculus.specs.Lists.{padded}
-use Rattle.calculus.specs.Rows.{Row, Result, endless, listed}
+use Rattle.calculus.specs.Rows.{Result, endless, listed}
 use Rattle.causes.specs.declared.Answer.{Answer}
 use Rattle.causes.specs.declared.Answer.the-variants.{Done, Refused}
-use Rattle.causes.specs.Causes.{first-cause}
+use Rattle.causes.specs.Causes.{first-cause, number, place}
 use Rattle.query.specs.declared.Query.{Query}
-use Rattle.query.specs.Reading.{max-nodes, max-constants, max-columns, pool, nodes-in}
+use Rattle.query.specs.Reading.{pool, nodes-in}
 use Rattle.query.specs.Packing.{word-bytes, packed-bytes}
 use Rattle.verdict.specs.declared.Verdict.{Verdict}
-use Rattle.answer.specs.Listing.{numbers}
+use Rattle.answer.specs.Reply.{row-bytes}
 use Rattle.packed.specs.Packed.{judged-of, result-in, list-checks}
 pub mod Laws
 
 -- ---- numbers returned
 
--- Document 01's number and place of a refusal: 2^31 + 256 × number + place.
-abbrev pub refusal : ℕ → ℕ → ℕ
-refusal n p = 2147483648 + 256 * n + p
+-- Document 01's number and place of a refusal, as one number.
+abbrev pub code : Answer → ℕ
+code a = 256 * number a + place a
 
--- An endless answer: 2^31.
+-- A refusal of the verdict: 2^31 + 256 × number + place.
+abbrev pub verdict-refusal : Answer → ℕ
+verdict-refusal a = 2 ^ 31 + code a
+
+-- An endless answer: 2^63.
 abbrev pub code-endless : ℕ
-code-endless = 2147483648
+code-endless = 2 ^ 63
+
+-- A refusal of the answers: 2^63 + 256 × number + place.
+abbrev pub answer-refusal : Answer → ℕ
+answer-refusal a = code-endless + code a
 
 -- ---- the verdict
 
@@ -60,36 +67,22 @@ verdict-bytes v = padded verdict-size 0 (verdict-fields v ++ form-bytes (v .form
 -- 0, and the bytes; or a refusal, and the lent output as it was.
 abbrev pub verdict-reply : Answer → Verdict → List ℕ → ℕ × List ℕ
 verdict-reply Done v out = (0, verdict-bytes v)
-verdict-reply (Refused n p) v out = (refusal n p, out)
+verdict-reply (Refused n p) v out = (verdict-refusal (Refused n p), out)
 
 abbrev pub verdict-entry : List ℕ → List ℕ → ℕ × List ℕ
 verdict-entry bs out = verdict-reply (judged-of bs .answer) (judged-of bs) out
 
 -- ---- the answers
 
--- The numbers that there is room for in so many bytes: 4 bytes each, and 4,096 of them at most.
+-- The numbers that there is room for in so many bytes: 4 bytes each.
 abbrev pub room-in : ℕ → ℕ
-room-in n = cond (ltb 4096 (n / 4)) 4096 (n / 4)
-
--- The values of rows, 4 bytes each, one row after the other.
-abbrev pub row-bytes : List Row → List ℕ
-row-bytes rows = union-of word-bytes (numbers rows)
+room-in n = n / 4
 
 -- The number of rows, and the rows at the front of the lent output; or that the answer is endless, or a refusal, and the lent output as it was.
 abbrev pub answer-reply : Answer → Result → List ℕ → ℕ × List ℕ
 answer-reply Done endless out = (code-endless, out)
 answer-reply Done (listed rows) out = (length rows, row-bytes rows ++ drop (length (row-bytes rows)) out)
-answer-reply (Refused n p) found out = (refusal n p, out)
+answer-reply (Refused n p) found out = (answer-refusal (Refused n p), out)
 
 abbrev pub answer-entry : List ℕ → List ℕ → ℕ × List ℕ
 answer-entry bs out = answer-reply (first-cause (list-checks bs (room-in (length out)))) (result-in bs) out
-
--- ---- how the code goes about it
-
--- A query within the limits.
-abbrev pub Few : Query → Type 0
-Few q = (q .«node_count» ≤ max-nodes) × (q .«constant_count» ≤ max-constants)
-
--- A verdict within the limits, as one on an accepted query is.
-abbrev pub Writable : Verdict → Type 0
-Writable v = (v .columns .count ≤ max-columns) × Few (v .form)

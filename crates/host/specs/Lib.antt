@@ -1,1 +1,2 @@
 pub mod Entry
+pub mod Code

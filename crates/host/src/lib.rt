@@ -3,23 +3,27 @@
 mod bytes;
 
 use causes::Answer;
-use packed::ROOM;
 use verdict::Verdict;
 ghost use mathlib.Core.Path.{_≡_};
-ghost use Prim.Native.Nat.{_≤_};
-ghost use Rattle.host.specs.Entry.{refusal, room-in, verdict-bytes, verdict-entry, answer-entry, Writable};
+ghost use Prim.Native.Nat.{_<_};
+ghost use Rattle.causes.specs.declared.Answer.the-variants.{Refused};
+ghost use Rattle.host.specs.Entry.{code, verdict-bytes, verdict-entry, answer-entry};
+ghost use Rattle.host.specs.Code.Entry.{Writable};
 
 // The bytes of a verdict.
 pub const VERDICT: usize = 370;
 
-// What an endless answer returns.
-const ENDLESS: u32 = 2147483648;
+// Where the refusals of a verdict start.
+const REFUSED: u32 = 2147483648;
 
-// A refusal as one number.
-fn refused(number: u8, place: u8) -> u32
-    ensures { λ r. ⌜ r ≡ refusal number place ⌝ }
+// What an endless answer returns, and where the refusals of an answer start.
+const ENDLESS: u64 = 9223372036854775808;
+
+// The number and place of a refusal as one number.
+fn code(number: u8, place: u8) -> u32
+    ensures { λ r. ⌜ (r ≡ code (Refused number place)) × (r < 65536) ⌝ }
 {
-    ENDLESS + 256 * number as u32 + place as u32
+    256 * number as u32 + place as u32
 }
 
 // A verdict's bytes.
@@ -57,37 +61,24 @@ pub extern "C" fn palmrummy_verdict(input: &[u8], out: &mut [u8; VERDICT]) -> u3
     let v = packed::judge(input);
     let answer = v.answer;
     if let Answer::Refused(number, place) = answer {
-        return refused(number, place);
+        return REFUSED + code(number, place);
     }
     *out = written(v);
     0
 }
 
-// The numbers that there is room for in so many bytes.
-fn room_in(n: usize) -> usize
-    ensures { λ r. ⌜ (r ≡ room-in n) × (r ≤ 4096) ⌝ }
-{
-    let m = n / 4;
-    if ROOM < m { ROOM } else { m }
-}
-
 // The answer to the query of a packed input: causes 2, then 1 and 3 to 10, then 13 and 15, then 18.
 #[no_mangle]
-pub extern "C" fn palmrummy_answer(input: &[u8], out: &mut [u8]) -> u32
+pub extern "C" fn palmrummy_answer(input: &[u8], out: &mut [u8]) -> u64
     ensures { λ r. ⌜ (r, now (out .exit)) ≡ answer-entry (now (input .entry)) (now (out .entry)) ⌝ }
 {
-    let mut space = packed::room();
-    let room = room_in(out.len());
-    let listing = packed::find(input, &mut space[..room]);
+    let listing = packed::find_bytes(input, out);
     let answer = listing.answer;
     if let Answer::Refused(number, place) = answer {
-        return refused(number, place);
+        return ENDLESS + code(number, place) as u64;
     }
     if listing.endless {
         return ENDLESS;
     }
-    let columns = listing.columns;
-    let rows = listing.rows;
-    bytes::words(&space, rows * columns.count, out, 0);
-    rows as u32
+    listing.rows as u64
 }

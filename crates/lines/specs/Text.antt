@@ -1,18 +1,17 @@
 -- What the list program prints: document 01, "The list program and the host". Bytes are ASCII. Definitions only; the laws are in Text/Laws.antt.
-use Prim.Native.Nat.{ℕ, zero, suc, _+_, _/_, _%_}
+use Prim.Native.Nat.{ℕ, zero, suc, _+_, _/_, _%_, _*_, _-_}
 use mathlib.Core.Bool.{Bool, cond}
 use mathlib.Core.List.{List, [], _∷_, _++_}
-use lib.ListN.{length, drop}
+use lib.ListN.{length, drop, replicate}
 use lib.Dec.{ltb}
 use Rattle.calculus.specs.Sets.{union-of}
 use Rattle.calculus.specs.Generators.{columns, verdict, safe}
 use Rattle.calculus.specs.Rows.{Result, endless, listed}
 use Rattle.causes.specs.declared.Answer.{Answer}
 use Rattle.causes.specs.declared.Answer.the-variants.{Done, Refused}
-use Rattle.causes.specs.Causes.{first-cause}
+use Rattle.causes.specs.Causes.{first-cause, number, place}
 use Rattle.query.specs.declared.Query.{Query}
 use Rattle.query.specs.Reading.{formula}
-use Rattle.answer.specs.Listing.{overlay}
 use Rattle.packed.specs.Packed.{query-read, result-in, list-checks}
 pub mod Laws
 pub mod Digits
@@ -33,6 +32,11 @@ digits (suc k) n = cond (ltb n 10) [] (digits k (n / 10)) ++ ((48 + n % 10) ∷ 
 -- A number of at most ten digits: every value, number, place and count has no more.
 unfoldable pub decimal : ℕ → List ℕ
 decimal n = digits 10 n
+
+-- The number that digits stand for.
+abbrev pub reading-from : ℕ → List ℕ → ℕ
+reading-from n [] = n
+reading-from n (d ∷ ds) = reading-from (n * 10 + (d - 48)) ds
 
 -- ---- lines
 
@@ -86,10 +90,10 @@ answer-text (listed rows) = union-of (line word-row) rows ++ line word-rows (len
 abbrev pub head-text : Bool → List ℕ → List ℕ
 head-text safe cols = line (cond safe word-safe word-unsafe) [] ++ line word-columns cols
 
--- A refusal prints only its own line.
+-- A refusal prints only its own line, with document 01's number and place.
 abbrev pub reply-text : Answer → Query → Result → List ℕ
 reply-text Done q found = head-text (safe (verdict (formula q))) (columns (formula q)) ++ answer-text found
-reply-text (Refused n p) q found = line word-refused (n ∷ p ∷ [])
+reply-text (Refused n p) q found = line word-refused (number (Refused n p) ∷ place (Refused n p) ∷ [])
 
 -- The whole output for the input bs.
 abbrev pub text-of : List ℕ → List ℕ
@@ -99,8 +103,14 @@ text-of bs = reply-text (first-cause (list-checks bs room)) (query-read bs) (res
 abbrev pub printed : List ℕ → List ℕ → ℕ × List ℕ
 printed bs out = (length (text-of bs), text-of bs ++ drop (length (text-of bs)) out)
 
--- ---- how the code goes about it
+-- ---- document 01's worked input
 
--- The place after a text that is written from a place on, and the list with it.
-abbrev pub wrote : ℕ → List ℕ → List ℕ → ℕ × List ℕ
-wrote at text out = (at + length text, overlay at text out)
+-- Relation 0 of width 2 and relation 1 of width 1; records 0(7,3), 0(9,3), 1(7); the query 0(x,y) and not 1(x).
+abbrev pub first-input : List ℕ
+first-input =
+    (2 ∷ 1 ∷ replicate 14 0)
+    ++ ((0 ∷ 3 ∷ [])
+    ++ ((0 ∷ 0 ∷ 0 ∷ 0 ∷ 7 ∷ 0 ∷ 0 ∷ 0 ∷ 3 ∷ replicate 8 0)
+    ++ ((0 ∷ 0 ∷ 0 ∷ 0 ∷ 9 ∷ 0 ∷ 0 ∷ 0 ∷ 3 ∷ replicate 8 0)
+    ++ ((1 ∷ 0 ∷ 0 ∷ 0 ∷ 7 ∷ replicate 12 0)
+    ++ (0x10 ∷ 0x80 ∷ 0x20 ∷ 0x80 ∷ 0x10 ∷ 0x00 ∷ 0x22 ∷ 0x40 ∷ 0x00 ∷ 0x00 ∷ 0x60 ∷ 0x80 ∷ 0x00 ∷ 0x00 ∷ 0x80 ∷ 0x04 ∷ 0x00 ∷ 0x00 ∷ [])))))

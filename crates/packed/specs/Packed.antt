@@ -1,5 +1,6 @@
 -- The packed input: document 01, "The list program and the host", and what the calls over it reply. Definitions only; the laws are in Packed/Laws.antt.
-use Prim.Native.Nat.{ℕ, _+_, _*_}
+use Prim.Native.Nat.{ℕ, _+_, _*_, _/_}
+use mathlib.Core.Path.{_≡_}
 use mathlib.Core.Bool.{Bool, false, not, _&&_}
 use mathlib.Core.List.{List, [], _∷_, _++_}
 use lib.ListN.{length, take, drop}
@@ -7,24 +8,24 @@ use lib.Dec.{leb}
 use Rattle.calculus.specs.Lists.{tabulate}
 use Rattle.calculus.specs.Order.{insert}
 use Rattle.calculus.specs.Generators.{columns, verdict, safe}
-use Rattle.calculus.specs.Rows.{Result}
+use Rattle.calculus.specs.Rows.{Result, Row, listed}
+use Rattle.calculus.specs.Sets.{In}
 use Rattle.causes.specs.declared.Answer.{Answer}
 use Rattle.causes.specs.declared.Answer.the-variants.{Done, Refused}
 use Rattle.causes.specs.Causes.{Check, check, first-cause, when}
 use Rattle.tables.specs.declared.Record.{Record}
 use Rattle.tables.specs.declared.Store.{Store}
 use Rattle.tables.specs.Records.{record-below, fits}
-use Rattle.tables.specs.Store.{capacity, no-store}
+use Rattle.tables.specs.Store.{capacity}
 use Rattle.tables.specs.Change.{is-held}
 use Rattle.tables.specs.Fill.{fill-reply}
 use Rattle.query.specs.declared.Query.{Query}
 use Rattle.query.specs.declared.Columns.{Columns}
-use Rattle.query.specs.Reading.{byte-at, word-at, read-of, read-checks, query-of, columns-of, formula}
+use Rattle.query.specs.Reading.{byte-at, word-at, read-of, read-checks, columns-of, formula}
 use Rattle.verdict.specs.declared.Verdict.{Verdict}
 use Rattle.verdict.specs.Verdict.{judged, refusal as verdict-refusal}
 use Rattle.answer.specs.declared.Found.{Found}
-use Rattle.answer.specs.Reply.{result-of, row-checks, worked}
-use Rattle.packed.specs.declared.Input.{Input}
+use Rattle.answer.specs.Reply.{result-of, row-checks, Writing, front, front-bytes, worked-by, RightOver, KnownTo}
 use Rattle.packed.specs.declared.Listing.{Listing}
 pub mod Laws
 pub mod Told
@@ -91,16 +92,6 @@ store-in bs = fill-reply (widths-in bs) (records-in bs) .store
 abbrev pub query-read : List ℕ → Query
 query-read bs = read-of (widths-in bs) (query-in bs) .query
 
-abbrev pub refusal : ℕ → ℕ → Input
-refusal n p = record { answer = Refused n p; store = no-store; query = query-of [] []; columns = columns-of [] }
-
-abbrev pub input-reply : Answer → List ℕ → Input
-input-reply Done bs = record { answer = Done; store = store-in bs; query = query-read bs; columns = columns-of (columns (formula (query-read bs))) }
-input-reply (Refused n p) bs = refusal n p
-
-abbrev pub input-of : List ℕ → Input
-input-of bs = input-reply (first-cause (input-checks bs)) bs
-
 -- ---- the verdict on its query
 
 abbrev pub judged-reply : Answer → Query → Verdict
@@ -127,20 +118,30 @@ declined n p = record { answer = Refused n p; safe = false; columns = columns-of
 abbrev pub beside : Found → Bool → Columns → Listing
 beside f safe cols = record { answer = Done; safe = safe; columns = cols; endless = f .endless; rows = f .rows }
 
--- Endless or rows as the answers call has them, with the rows at the front of the buffer.
-abbrev pub listing-reply : Answer → Query → Result → List ℕ → Listing × List ℕ
-listing-reply Done q found buffer =
-    (beside (worked found buffer .0) (safe (verdict (formula q))) (columns-of (columns (formula q))), worked found buffer .1)
-listing-reply (Refused n p) q found buffer = (declined n p, buffer)
+-- Endless or rows as the answers call has them, with the rows in the buffer; or the refusal, and the buffer as it was.
+abbrev pub listing-reply : Writing (List ℕ) → Answer → Query → Result → List ℕ → Listing × List ℕ
+listing-reply write Done q found buffer =
+    (beside (worked-by write found buffer .0) (safe (verdict (formula q))) (columns-of (columns (formula q))), worked-by write found buffer .1)
+listing-reply write (Refused n p) q found buffer = (declined n p, buffer)
 
+-- The list, with room for so many numbers.
+abbrev pub listing-in : Writing (List ℕ) → ℕ → List ℕ → List ℕ → Listing × List ℕ
+listing-in write room bs buffer = listing-reply write (first-cause (list-checks bs room)) (query-read bs) (result-in bs) buffer
+
+-- At the front of a list of numbers, with room for as many.
 abbrev pub listing-of : List ℕ → List ℕ → Listing × List ℕ
-listing-of bs buffer = listing-reply (first-cause (list-checks bs (length buffer))) (query-read bs) (result-in bs) buffer
+listing-of bs buffer = listing-in front (length buffer) bs buffer
 
--- ---- how the code goes about it
+-- At the front of bytes, four to a number.
+abbrev pub byte-listing-of : List ℕ → List ℕ → Listing × List ℕ
+byte-listing-of bs buffer = listing-in front-bytes (length buffer / 4) bs buffer
 
-abbrev pub listing-by : Answer → Found → Bool → Columns → Listing
-listing-by Done f safe cols = beside f safe cols
-listing-by (Refused n p) f safe cols = declined n p
+-- ---- what a list promises
 
-abbrev pub listing-with : Found → Bool → Columns → Listing
-listing-with f safe cols = listing-by (f .answer) f safe cols
+-- Rows are listed, they are all that satisfy the query, and each value is in a record of a relation that it names or is a constant of it.
+abbrev pub Listed : List ℕ → Result → Type 0
+Listed bs a =
+    (rows : List Row)
+    × (a ≡ listed rows)
+    × RightOver (store-in bs) (query-read bs) (listed rows)
+    × ((w : Row) → In w rows → (v : ℕ) → In v w → KnownTo (store-in bs) (query-read bs) v)

@@ -13,7 +13,8 @@ use tables::Store;
 use verdict::Verdict;
 ghost use mathlib.Core.Path.{_≡_};
 ghost use lib.ListN.{replicate};
-ghost use Rattle.packed.specs.Packed.{refusal, input-of, judged-of, declined, listing-with, listing-of};
+ghost use Rattle.packed.specs.Code.Packed.{refusal, input-of, listing-with};
+ghost use Rattle.packed.specs.Packed.{judged-of, declined, listing-of, byte-listing-of};
 
 // The most bytes of an input; those before its records; and those of a record.
 pub const LIMIT: usize = 8192;
@@ -22,7 +23,7 @@ pub const HEAD: usize = 18;
 
 pub const RECORD: usize = 17;
 
-// The numbers that a list has room for in the list program and the host.
+// The numbers that a list has room for in the list program.
 pub const ROOM: usize = 4096;
 
 // What an input holds: the store of its records, and its query with the columns. A refusal comes with nothing else.
@@ -157,5 +158,22 @@ pub fn find(bytes: &[u8], out: &mut [u32]) -> Listing
     let columns = input.columns;
     let verdict = verdict::judged(query, columns);
     let found = answer::evaluate(store, query, columns, out);
+    list(found, verdict.safe, columns)
+}
+
+// The same with the rows in bytes, four to a number, high byte first: there is room for as many as the bytes have fours.
+pub fn find_bytes(bytes: &[u8], out: &mut [u8]) -> Listing
+    ensures { λ l. ⌜ (l, now (out .exit)) ≡ byte-listing-of (now (bytes .entry)) (now (out .entry)) ⌝ }
+{
+    let input = take(bytes);
+    let answer = input.answer;
+    if let Answer::Refused(number, place) = answer {
+        return refused_listing(number, place);
+    }
+    let store = input.store;
+    let query = input.query;
+    let columns = input.columns;
+    let verdict = verdict::judged(query, columns);
+    let found = answer::evaluate_bytes(store, query, columns, out);
     list(found, verdict.safe, columns)
 }

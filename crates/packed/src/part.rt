@@ -10,7 +10,7 @@ ghost use mathlib.Core.Path.{_≡_};
 ghost use Prim.Native.Nat.{_+_, _*_, _≤_, _<_};
 ghost use lib.ListN.{length};
 ghost use Rattle.calculus.specs.Lists.{tabulate};
-ghost use Rattle.tables.specs.Fill.{beginning, collect-all};
+ghost use Rattle.tables.specs.Code.Fill.{beginning, collect-all};
 ghost use Rattle.packed.specs.Packed.{is-whole, widths-in, count-in, record-from, record-at};
 
 // The number of records.
@@ -73,7 +73,8 @@ pub fn fill(bytes: &[u8], widths: [u8; RELATIONS], n: usize) -> Changed
     let mut f = tables::fill::begin(widths);
     let mut i = 0;
     while i < n {
-        f = tables::fill::collect(f, record(bytes, HEAD + RECORD * i));
+        let r = record(bytes, HEAD + RECORD * i);
+        f = tables::fill::collect(f, r.relation, r.first, r.second, r.third, r.fourth);
         i += 1;
     }
     f

@@ -1,7 +1,7 @@
 pub mod Nodes
 pub mod Decoding
 pub mod Reading
-pub mod Free
 pub mod Packing
 pub mod Accepted
 pub mod Cases
+pub mod Code

@@ -6,7 +6,6 @@ use mathlib.Core.List.{List, [], _∷_}
 use lib.ListN.{length, getD, take, drop}
 use lib.Dec.{eqb, leb}
 use Rattle.calculus.specs.Sets.{any-of, union-of}
-use Rattle.calculus.specs.Lists.{tabulate}
 pub mod Sums
 pub mod Laws
 
@@ -101,8 +100,3 @@ strays count w = any-of (is-stray count) (used-terms w)
 -- Cause 9: a record whose relation is absent, or whose term count is not the relation's width.
 abbrev pub mismatched : List ℕ → ℕ → Bool
 mismatched ws w = by-kind false (eqb (getD ws (relation w) 0) 0 || not (eqb (term-count w) (getD ws (relation w) 0))) false false false false false false w
-
--- ---- how the code counts uses
-
-abbrev pub counted-with : List ℕ → ℕ → List ℕ
-counted-with counts w = tabulate (λ c. getD counts c 0 + occurrences c (children w)) 64

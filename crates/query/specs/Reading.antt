@@ -1,16 +1,17 @@
 -- The reader's reply: document 01, "The packed query" and causes 1 and 3 to 10. Definitions only; the laws are in Reading/Laws.antt.
-use Prim.Native.Nat.{ℕ, _+_, _*_, _-_, _/_, _%_}
-use mathlib.Core.Bool.{Bool, false, not, _||_, cond}
+use Prim.Native.Nat.{ℕ, _+_, _*_, _/_, _%_, _<_}
+use mathlib.Core.Bool.{not, _||_}
 use mathlib.Core.List.{List, [], _∷_, _++_}
 use lib.ListN.{length, getD, take}
 use lib.Dec.{eqb, ltb}
+use Rattle.calculus.specs.Sets.{In}
 use Rattle.calculus.specs.Lists.{tabulate, padded}
 use Rattle.calculus.specs.Formula.{Fmla}
 use Rattle.calculus.specs.Satisfaction.{Pool}
 use Rattle.calculus.specs.Generators.{columns}
 use Rattle.causes.specs.declared.Answer.{Answer}
 use Rattle.causes.specs.declared.Answer.the-variants.{Done, Refused}
-use Rattle.causes.specs.Causes.{Finding, clear, met, Check, check, first-cause, when, lowest, widths-fit}
+use Rattle.causes.specs.Causes.{Check, check, first-cause, when, lowest, widths-fit}
 use Rattle.query.specs.declared.Query.{Query}
 use Rattle.query.specs.declared.Columns.{Columns}
 use Rattle.query.specs.declared.Reading.{Reading}
@@ -30,6 +31,10 @@ abbrev pub max-columns : ℕ
 max-columns = 4
 
 -- ---- the bytes
+
+-- The numbers of a list are bytes.
+abbrev pub Bytes : List ℕ → Type 0
+Bytes bs = (b : ℕ) → In b bs → b < 256
 
 -- Header, 16 bits: version 4, node count 7, constant count 5.
 abbrev pub byte-at : List ℕ → ℕ → ℕ
@@ -88,6 +93,10 @@ query-of cs ns = record { constants = padded max-constants 0 cs; «constant_coun
 abbrev pub columns-of : List ℕ → Columns
 columns-of xs = record { variables = padded max-columns 0 xs; count = length xs }
 
+-- The columns in their places.
+abbrev pub variables-in : Columns → List ℕ
+variables-in c = take (c .count) (c .variables)
+
 abbrev pub refusal : ℕ → ℕ → Reading
 refusal n p = record { answer = Refused n p; query = query-of [] []; columns = columns-of [] }
 
@@ -111,13 +120,3 @@ nodes-in q = take (q .«node_count») (q .nodes)
 
 abbrev pub formula : Query → Fmla
 formula q = root (nodes-in q)
-
--- ---- how the code finds a node's fault
-
--- The fault of the causes 6 to 9.
-abbrev pub node-fault : ℕ → List ℕ → ℕ → List ℕ → ℕ → Bool
-node-fault cause ws k ns i =
-    getD (malformed (getD ns i 0) ∷ misplaced ns i ∷ strays k (getD ns i 0) ∷ mismatched ws (getD ns i 0) ∷ []) (cause - 6) false
-
-abbrev pub found-at : ℕ → ℕ → Finding
-found-at i n = cond (ltb i n) (met i) clear

@@ -14,7 +14,7 @@ ghost use Rattle.calculus.specs.Sets.{member};
 ghost use Rattle.calculus.specs.Formula.{fv};
 ghost use Rattle.calculus.specs.Generators.{columns as columns-read};
 ghost use Rattle.query.specs.Decoding.{root};
-ghost use Rattle.query.specs.Free.{free-in, columns-found};
+ghost use Rattle.query.specs.Code.Free.{free-in, columns-found};
 
 // Whether x is among the first count terms.
 fn among(x: u32, count: u32, a: u32, b: u32, c: u32, d: u32) -> bool

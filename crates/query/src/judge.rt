@@ -11,8 +11,9 @@ ghost use Prim.Native.Nat.{ℕ, _+_, _≤_, _<_};
 ghost use lib.ListN.{length, getD, set, take};
 ghost use Rattle.calculus.specs.Lists.{tabulate};
 ghost use Rattle.causes.specs.Causes.{first-cause, lowest};
-ghost use Rattle.query.specs.Nodes.{uses, counted-with};
-ghost use Rattle.query.specs.Reading.{max-nodes, max-constants, header-checks, tree-checks, node-fault, found-at};
+ghost use Rattle.query.specs.Nodes.{uses};
+ghost use Rattle.query.specs.Code.Judging.{counted-with, node-fault, found-at};
+ghost use Rattle.query.specs.Reading.{max-nodes, max-constants, header-checks, tree-checks};
 
 // Causes 1, 3, 4 and 5.
 pub fn header(bytes: &[u8], widths: [u8; RELATIONS]) -> Answer

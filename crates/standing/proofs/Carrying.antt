@@ -9,11 +9,11 @@ use mathlib.Core.List.{List, [], _∷_, _++_, map, map-append, append-nil}
 use lib.ListN.{length, getD, take, drop, set, length-append, length-drop, length-map}
 use lib.Seq.{getD-drop, take-suc, take-take, drop-drop, take-at, drop-at, length-take-le, paste, paste-suc}
 use Rattle.calculus.specs.Sets.Laws.{union-append}
-use Rattle.calculus.specs.Rows.{Row}
-use Rattle.answer.specs.Listing.{numbers, cut}
-use Rattle.answer.specs.Listing.Cut.{length-cut, cut-width, cut-next, position-within}
+use Rattle.calculus.specs.Rows.{Row, numbers}
+use Rattle.answer.specs.Code.Listing.{cut}
+use Rattle.answer.specs.Code.Listing.Cut.{length-cut, cut-width, cut-next, position-within}
 use Rattle.standing.specs.View.{lines, stored}
-use Rattle.answer.specs.Listing.Rows.{numbers-width}
+use Rattle.answer.specs.Code.Listing.Rows.{numbers-width}
 use Rattle.standing.specs.View.Laws.{length-lines, getD-lines, line-taken, width-rows, stored-next}
 use Rattle.standing.specs.Change.{fronted}
 

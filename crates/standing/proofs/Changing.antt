@@ -5,7 +5,7 @@ use mathlib.Core.Path.{_≡_, refl, sym, ap, subst, subst⁻¹, _∙_}
 use mathlib.Core.List.{List, []}
 use lib.ListN.{getD}
 use Rattle.calculus.specs.Generators.{columns}
-use Rattle.calculus.specs.Reflects.{reflected}
+use Rattle.calculus.specs.Reflects.Laws.{reflected}
 use Rattle.causes.specs.declared.Answer.{Answer}
 use Rattle.causes.specs.declared.Answer.the-variants.{Done, Refused}
 use Rattle.causes.specs.Causes.{Check, first-cause}
@@ -18,12 +18,14 @@ use Rattle.tables.specs.Store.Laws.{reflects-layout, judged-layout}
 use Rattle.tables.specs.Change.{reply}
 use Rattle.query.specs.declared.Reading.{Reading}
 use Rattle.query.specs.Reading.{formula}
-use Rattle.answer.specs.Reply.{query-read, Evaluable}
+use Rattle.answer.specs.Reply.{query-read}
+use Rattle.answer.specs.Code.Reply.{Evaluable}
 use Rattle.standing.specs.declared.View.{View}
 use Rattle.standing.specs.declared.Change.{Change}
 use Rattle.standing.specs.View.{suits}
 use Rattle.standing.specs.Checks.{Kind, view-checks, record-checks}
-use Rattle.standing.specs.Change.{begin-checks, ready-checks, refusal, store-after, change-of, readied, Suits, altered, settled}
+use Rattle.standing.specs.Change.{begin-checks, ready-checks, refusal, store-after, change-of}
+use Rattle.standing.specs.Code.Change.{readied, Suits, altered, settled}
 use Rattle.standing.specs.Change.Laws.{begun-judged, begun-evaluable}
 use Rattle.standing.specs.Change.Stores.{altered-is, after-judged}
 use Rattle.standing.specs.Change.Calls.{change-unready, change-refused, change-settled}

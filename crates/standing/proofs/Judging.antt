@@ -8,11 +8,12 @@ use lib.ListN.{length, getD, drop}
 use lib.Seq.{ext-getD, getD-drop}
 use lib.Dec.{T, eqb}
 use borrow.Author.Tests.{eq-eqb, ne-eqb, eqb-true, eqb-false, not-true, not-false}
-use Rattle.calculus.specs.Reflects.{reflected, reflects-T, reflects-false, reflects-same, reflects-eqb}
+use Rattle.calculus.specs.Reflects.Laws.{reflected, reflects-T, reflects-false, reflects-same, reflects-eqb}
 use Rattle.calculus.specs.Lists.Laws.{all-of-getD}
 use Rattle.query.specs.declared.Columns.{Columns}
 use Rattle.standing.specs.declared.Line.{Line}
-use Rattle.standing.specs.View.{values-of, ends}
+use Rattle.standing.specs.Code.View.{values-of}
+use Rattle.standing.specs.View.{ends}
 
 -- ---- whether a row ends
 

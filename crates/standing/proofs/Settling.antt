@@ -10,11 +10,12 @@ use mathlib.Core.List.{List, [], _∷_, map}
 use lib.ListN.{length, take, drop, replicate, length-replicate}
 use lib.Dec.{T}
 use borrow.Author.Tests.{ltb-false, lt-leb}
-use Rattle.calculus.specs.Reflects.{Reflects, holds, fails, reflects-ltb}
+use Rattle.calculus.specs.Reflects.{Reflects, holds, fails}
+use Rattle.calculus.specs.Reflects.Laws.{reflects-ltb}
 use Rattle.calculus.specs.Lists.{padded}
 use Rattle.calculus.specs.Order.{Ascending}
 use Rattle.calculus.specs.Generators.{columns}
-use Rattle.calculus.specs.Rows.{Row, row-below, Result, endless, listed, only-in}
+use Rattle.calculus.specs.Rows.{Row, row-below, Result, endless, listed, only-in, numbers, Width}
 use Rattle.causes.specs.declared.Answer.{Answer}
 use Rattle.causes.specs.declared.Answer.the-variants.{Done, Refused}
 use Rattle.causes.specs.Causes.{check, first-cause, when, is-done}
@@ -23,19 +24,22 @@ use Rattle.query.specs.declared.Query.{Query}
 use Rattle.query.specs.declared.Columns.{Columns}
 use Rattle.query.specs.Reading.{formula}
 use Rattle.answer.specs.declared.Found.{Found}
-use Rattle.answer.specs.Listing.{numbers, cut, Width}
-use Rattle.answer.specs.Listing.Cut.{cut-numbers}
-use Rattle.answer.specs.Reply.{result-of, exceeds, found-reply, Evaluable, evaluated}
+use Rattle.answer.specs.Code.Listing.{cut}
+use Rattle.answer.specs.Code.Listing.Cut.{cut-numbers}
+use Rattle.answer.specs.Reply.{result-of, exceeds, found-reply}
+use Rattle.answer.specs.Code.Reply.{Evaluable, evaluated}
 use Rattle.standing.specs.declared.Rows.{Rows}
 use Rattle.standing.specs.declared.View.{View}
 use Rattle.standing.specs.declared.Current.{Current}
 use Rattle.standing.specs.declared.Change.{Change}
-use Rattle.standing.specs.View.{lines-held, stored, rows-in, kept, mark, InOrder}
+use Rattle.standing.specs.View.{lines-held, stored, rows-in, kept, mark}
+use Rattle.standing.specs.Code.View.{InOrder}
 use Rattle.standing.specs.View.Laws.{lines-stored, rows-stored, stored-padded}
 use Rattle.standing.specs.View.Difference.{padded-ascending, only-in-padded, only-in-width, only-in-fewer}
 use Rattle.standing.specs.View.Layout.{Layout, suited}
 use Rattle.standing.specs.Checks.{is-over, report-checks}
-use Rattle.standing.specs.Change.{joining, leaving, fronted, refusal, turn-reply, current, Suits, settled}
+use Rattle.standing.specs.Change.{joining, leaving, fronted, refusal, turn-reply}
+use Rattle.standing.specs.Code.Change.{current, Suits, settled}
 use Rattle.standing.specs.Change.Turn.{result-wide, result-ascends, report-done, too-many, all-kept, current-over, current-kept, over-is, settled-by}
 
 -- ---- at most 512 rows of at most four columns

@@ -9,15 +9,15 @@ use mathlib.Core.List.{List, [], _∷_, _++_}
 use lib.ListN.{length, getD, take, drop, replicate, length-append}
 use lib.Dec.{T, ltb}
 use borrow.Author.Tests.{lt-ltb, le-ltb}
-use Rattle.calculus.specs.Reflects.{decided, reflects-ltb}
+use Rattle.calculus.specs.Reflects.Laws.{decided, reflects-ltb}
 use Rattle.calculus.specs.Sets.{any-of, same-list}
 use Rattle.calculus.specs.Order.{Ascending}
 use Rattle.calculus.specs.Order.Laws.{ascending-at}
-use Rattle.calculus.specs.Rows.{Row, row-below, only-in}
+use Rattle.calculus.specs.Rows.{Row, row-below, only-in, Width}
 use Rattle.calculus.specs.Rows.Laws.{row-order}
 use Rattle.standing.specs.declared.Rows.{Rows}
-use Rattle.answer.specs.Listing.{Width}
-use Rattle.standing.specs.View.{line-at, lines, stored, Passed, Parted}
+use Rattle.standing.specs.View.{line-at, lines, stored}
+use Rattle.standing.specs.Code.View.{Passed, Parted}
 use Rattle.standing.specs.View.Laws.{length-lines, getD-lines, line-taken, width-first, stored-none, length-stored, stored-next}
 use Rattle.standing.specs.View.Layout.{length-first, getD-first}
 use Rattle.standing.specs.View.Difference.{parted-in, only-in-width, only-in-fewer, only-in-also, only-in-without}

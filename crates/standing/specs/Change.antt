@@ -1,31 +1,24 @@
 -- The replies of opening, put and removal: document 01, "Rows, endless and listed", and the causes that each meets. Definitions only; the laws are in
 -- Change/Laws.antt.
 use Prim.Native.Nat.{ℕ, _+_}
-use mathlib.Core.Bool.{true, false, cond}
 use mathlib.Core.List.{List, [], _∷_, _++_}
 use lib.ListN.{length, drop}
-use lib.Dec.{T}
 use Rattle.calculus.specs.Generators.{columns}
-use Rattle.calculus.specs.Rows.{Row, Result, endless, listed, only-in}
+use Rattle.calculus.specs.Rows.{Row, Result, listed, only-in, numbers}
 use Rattle.causes.specs.declared.Answer.{Answer}
 use Rattle.causes.specs.declared.Answer.the-variants.{Done, Refused}
 use Rattle.causes.specs.Causes.{Check, check, first-cause, when}
 use Rattle.tables.specs.declared.Record.{Record}
 use Rattle.tables.specs.declared.Store.{Store}
-use Rattle.tables.specs.declared.Changed.{Changed}
 use Rattle.tables.specs.Store.{held, store-of, store-checks}
-use Rattle.tables.specs.Change.{insertion, deletion}
 use Rattle.query.specs.declared.Query.{Query}
-use Rattle.query.specs.declared.Reading.{Reading}
-use Rattle.query.specs.Reading.{formula, read-of, read-checks}
-use Rattle.answer.specs.Listing.{numbers}
+use Rattle.query.specs.Reading.{formula, read-checks}
 use Rattle.answer.specs.Reply.{result-of, query-read}
 use Rattle.standing.specs.declared.View.{View}
-use Rattle.standing.specs.declared.Current.{Current}
 use Rattle.standing.specs.declared.Opened.{Opened}
 use Rattle.standing.specs.declared.Change.{Change}
-use Rattle.standing.specs.View.{rows-in, stored, kept, mark, view-of, suits}
-use Rattle.standing.specs.Checks.{Kind, put, removal, view-checks, record-checks, records-after, is-over, report-checks}
+use Rattle.standing.specs.View.{rows-in, kept, view-of}
+use Rattle.standing.specs.Checks.{Kind, view-checks, record-checks, records-after, is-over, report-checks}
 pub mod Laws
 pub mod Stores
 pub mod Calls
@@ -107,36 +100,3 @@ change-of kind s v bs r first second =
     turn-reply
     (first-cause (ready-checks s v bs ++ (record-checks kind (s .widths) (held s) r ++ turn-checks v (columns (formula q)) found (length first) (length second))))
     s t v (columns (formula q)) found first second
-
--- ---- how the code goes about it
-
--- Rows found anew: whether they are over 512, and else the rows and the mark.
-abbrev pub current : Result → Current
-current found =
-    cond
-    (is-over (length (kept found)))
-    (record { over = true; endless = false; rows = stored [] })
-    (record { over = false; endless = mark found; rows = stored (kept found) })
-
--- The query as read, with the first of the causes 1 to 10.
-abbrev pub begun : Store → List ℕ → Reading
-begun s bs = record { answer = first-cause (begin-checks s bs); query = read-of (s .widths) bs .query; columns = read-of (s .widths) bs .columns }
-
--- The same, and cause 12.
-abbrev pub readied : Store → View → List ℕ → Reading
-readied s v bs = record { answer = first-cause (ready-checks s v bs); query = read-of (s .widths) bs .query; columns = read-of (s .widths) bs .columns }
-
--- The list suits the columns of an accepted query.
-abbrev pub Suits : View → Query → Type 0
-Suits v q = T (suits v (columns (formula q)))
-
--- What the call of `tables` for a kind ensures.
-abbrev pub altered : Kind → Store → Record → Changed
-altered put s r = insertion s r
-altered removal s r = deletion s r
-
--- The reply to a change that came to the store t.
-abbrev pub settled : Store → Store → View → Query → List ℕ → List ℕ → Change × (List ℕ × List ℕ)
-settled s t v q first second =
-    let found : Result = result-of t q in
-    turn-reply (first-cause (turn-checks v (columns (formula q)) found (length first) (length second))) s t v (columns (formula q)) found first second

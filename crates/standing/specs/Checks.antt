@@ -1,5 +1,5 @@
--- Causes 12 to 19 as a put or removal judges them, and what it makes of the records. Each row of document 01's table has one definition, which the replies and
--- the ledger use: the replies judge the store and the list that they are given, the ledger what it keeps.
+-- Causes 12 to 19 as a put or removal judges them, and what it makes of the records. Each row of document 01's table has one definition here, which the replies
+-- use. The ledger cites none of them but says the same in document 01's words; Ledger/Ties.antt shows that the two agree.
 use Prim.Native.Nat.{ℕ, _*_, _^_}
 use mathlib.Core.Bool.{Bool, true, false, not, _||_}
 use mathlib.Core.List.{List, [], _∷_}

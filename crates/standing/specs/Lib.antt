@@ -3,3 +3,4 @@ pub mod Checks
 pub mod Change
 pub mod Ledger
 pub mod Runs
+pub mod Code

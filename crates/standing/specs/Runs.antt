@@ -1,17 +1,19 @@
 -- Runs, and demand 3: one claim about every run. Definitions only; the theorem is in Runs/Laws.antt.
 use Prim.Native.Nat.{ℕ, _+_}
 use mathlib.Core.Path.{_≡_}
-use mathlib.Core.List.{List, [], _∷_}
-use lib.ListN.{length}
+use mathlib.Core.List.{List, [], _∷_, _++_}
+use lib.ListN.{length, drop}
 use Rattle.calculus.specs.Generators.{columns}
+use Rattle.causes.specs.Causes.{number, place}
 use Rattle.tables.specs.declared.Store.{Store}
 use Rattle.tables.specs.Store.{held}
 use Rattle.query.specs.declared.Query.{Query}
 use Rattle.query.specs.Reading.{formula, columns-of}
+use Rattle.calculus.specs.Rows.{numbers}
 use Rattle.standing.specs.declared.View.{View}
 use Rattle.standing.specs.declared.Change.{Change}
 use Rattle.standing.specs.View.{rows-in, stored}
-use Rattle.standing.specs.Change.{fronted, change-of}
+use Rattle.standing.specs.Change.{change-of}
 use Rattle.standing.specs.Ledger.{Ledger, Call, Report}
 pub mod Steps
 pub mod Laws
@@ -29,14 +31,15 @@ pub data Run (bs : List ℕ) : Store → View → List Call → List Reply → S
   ended : {s : Store} {v : View} → Run bs s v [] [] s v
   call : {s t : Store} {v w : View} {c : Call} {cs : List Call} {r : Reply} {rs : List Reply} → Ensured bs s v c r → Run bs (r .0 .store) (r .0 .view) cs rs t w → Run bs s v (c ∷ cs) (r ∷ rs) t w
 
--- The reply is the ledger's: the answer and both numbers; the first buffer starts with its joined rows and the second with its left rows, in row order, and
--- the rest is as lent. After a refused call, which has no rows, that is the whole.
+-- The reply is the ledger's: number and place of its answer, and both numbers of rows; the first buffer starts with the ledger's joined rows and the second with
+-- its left rows, in row order, and the rest is as lent. After a refused call, which has no rows, that is the whole.
 pub record Agrees (c : Call) (l : Report) (r : Reply) : Type 0 where
-  pub answer-is : r .0 .answer ≡ l .answer
+  pub number-is : number (r .0 .answer) ≡ l .number
+  pub place-is : place (r .0 .answer) ≡ l .place
   pub joined-is : r .0 .joined ≡ length (l .joined)
   pub left-is : r .0 .left ≡ length (l .left)
-  pub first-is : r .1 .0 ≡ fronted (l .joined) (c .first)
-  pub second-is : r .1 .1 ≡ fronted (l .left) (c .second)
+  pub first-is : r .1 .0 ≡ numbers (l .joined) ++ drop (length (numbers (l .joined))) (c .first)
+  pub second-is : r .1 .1 ≡ numbers (l .left) ++ drop (length (numbers (l .left))) (c .second)
   pub first-length : length (r .1 .0) ≡ length (c .first)
   pub second-length : length (r .1 .1) ≡ length (c .second)
 

@@ -5,15 +5,13 @@ use mathlib.Core.Path.{_≡_}
 use mathlib.Core.Bool.{Bool, true, false, not, _&&_}
 use mathlib.Core.List.{List, [], _∷_, map}
 use lib.ListN.{length, getD, take, drop}
-use lib.Dec.{T, eqb, ltb, leb}
-use Rattle.calculus.specs.Sets.{In, all-of, union-of, same-list}
+use lib.Dec.{eqb, ltb, leb}
+use Rattle.calculus.specs.Sets.{all-of, union-of, same-list, In}
 use Rattle.calculus.specs.Lists.{tabulate, padded}
-use Rattle.calculus.specs.Order.{Ascending, is-ascending}
+use Rattle.calculus.specs.Order.{is-ascending, Ascending}
 use Rattle.calculus.specs.Rows.{Row, row-below, Result, endless, listed}
 use Rattle.query.specs.declared.Columns.{Columns}
-use Rattle.query.specs.Reading.{max-columns, columns-of}
-use Rattle.verdict.specs.Generating.{variables-in}
-use Rattle.standing.specs.declared.Line.{Line}
+use Rattle.query.specs.Reading.{max-columns, columns-of, variables-in}
 use Rattle.standing.specs.declared.Rows.{Rows}
 use Rattle.standing.specs.declared.View.{View}
 pub mod Laws
@@ -96,24 +94,6 @@ mark (listed rows) = false
 abbrev pub view-of : List ℕ → Result → ℕ → ℕ → ℕ → View
 view-of cols found opening joined left =
     record { columns = columns-of cols; rows = stored (kept found); endless = mark found; opening = opening; joined = joined; left = left }
-
--- ---- how the code goes about it
-
--- At most 512 rows, strictly ascending in their places.
-abbrev pub InOrder : Rows → Type 0
-InOrder r = (r .count ≤ max-rows) × Ascending row-below (lines-held r)
-
--- The four values of a row that was read.
-abbrev pub values-of : Line → Row
-values-of x = x .first ∷ x .second ∷ x .third ∷ x .fourth ∷ []
-
--- The rows before place j are below x,
-abbrev pub Passed : List Row → ℕ → Row → Type 0
-Passed ys j x = (o : ℕ) → o < j → T (row-below (getD ys o []) x)
-
--- and the one at j, if any, is not: among ascending rows x can stand only there.
-abbrev pub Parted : List Row → ℕ → Row → Type 0
-Parted ys j x = Passed ys j x × (j < length ys → ¬ T (row-below (getD ys j []) x))
 
 -- The columns of an accepted query: at most four variables, ascending, with zeros in the places past them.
 pub record QueryColumns (c : Columns) : Type 0 where

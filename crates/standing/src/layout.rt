@@ -12,7 +12,7 @@ ghost use Rattle.calculus.specs.Reflects.{Reflects};
 ghost use Rattle.calculus.specs.Sets.{all-of};
 ghost use Rattle.calculus.specs.Order.{is-ascending};
 ghost use Rattle.calculus.specs.Rows.{row-below};
-ghost use Rattle.verdict.specs.Generating.{variables-in};
+ghost use Rattle.query.specs.Reading.{variables-in};
 ghost use Rattle.standing.specs.View.{max-rows, lines, ends, suits, QueryColumns};
 
 // Whether each of the first count rows is zero past its first k values.

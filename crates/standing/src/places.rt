@@ -11,8 +11,9 @@ ghost use lib.ListN.{length, take};
 ghost use Rattle.calculus.specs.Sets.{any-of, same-list};
 ghost use Rattle.calculus.specs.Order.{Ascending};
 ghost use Rattle.calculus.specs.Rows.{row-below, only-in};
-ghost use Rattle.answer.specs.Listing.{cut};
-ghost use Rattle.standing.specs.View.{max-rows, lines, lines-held, stored, InOrder, values-of, Passed, Parted};
+ghost use Rattle.answer.specs.Code.Listing.{cut};
+ghost use Rattle.standing.specs.View.{max-rows, lines, lines-held, stored};
+ghost use Rattle.standing.specs.Code.View.{InOrder, values-of, Passed, Parted};
 ghost use Rattle.standing.specs.Change.{fronted};
 
 pub fn none() -> Rows

@@ -8,7 +8,8 @@ ghost use Prim.Native.Nat.{_+_, _≤_, _<_};
 ghost use lib.ListN.{length, take, drop};
 ghost use Rattle.calculus.specs.Sets.{same-list};
 ghost use Rattle.calculus.specs.Rows.{row-below};
-ghost use Rattle.standing.specs.View.{max-rows, line-at, values-of, ends};
+ghost use Rattle.standing.specs.View.{max-rows, line-at, ends};
+ghost use Rattle.standing.specs.Code.View.{values-of};
 
 // The row at place i.
 pub fn read(values: &[u32; NUMBERS], i: usize) -> Line

@@ -22,11 +22,13 @@ use Rattle.tables.specs.declared.Store.{Store}
 use Rattle.tables.specs.declared.Spot.{Spot}
 use Rattle.tables.specs.declared.Changed.{Changed}
 use Rattle.tables.specs.Records.{record-below, same-record, width, fits, values-of, is-blank, blank}
-use Rattle.tables.specs.Store.{places, places-of, record-at, set-values, held, unused, judgement, of-places, store-of, no-store}
+use Rattle.tables.specs.Store.{places, places-of, record-at, held, unused, judgement, of-places, store-of, no-store}
+use Rattle.tables.specs.Code.Store.{set-values}
 use Rattle.tables.specs.Store.Laws.{length-places}
 use Rattle.tables.specs.Store.Places.{length-set-values, places-set, insert-at, remove-at, insert-at-next, insert-at-end, insert-at-split, remove-at-next, remove-at-end, remove-at-split, store-placed}
-use Rattle.tables.specs.Change.{located, rank, found, raised, lowered, insertion, deletion}
-use Rattle.tables.specs.Fill.{beginning, merged, collected-into, collected}
+use Rattle.tables.specs.Code.Change.{located, found, raised, lowered, insertion, deletion}
+use Rattle.tables.specs.Change.{rank}
+use Rattle.tables.specs.Code.Fill.{beginning, merged, collected-into, collected}
 
 -- ---- the order of records, and their sameness, from the front
 
@@ -278,8 +280,8 @@ module _ (f : Changed) (r : Record) where
   collected-refused n p e = subst⁻¹ (λ (a : Answer). f ≡ collected-into f a r) e refl
 
   module _ (e : f .answer ≡ Done) where
-    pub collected-over : 256 < f .store .count → f ≡ collected f r
-    collected-over h = subst⁻¹ (λ (a : Answer). f ≡ collected-into f a r) e (rw (lt-ltb 256 (f .store .count) h))
+    pub collected-over : 256 < f .store .count → (s : Store) → s ≡ no-store → changed (Refused 2 0) s ≡ collected f r
+    collected-over h s k = subst⁻¹ (λ (a : Answer). changed (Refused 2 0) s ≡ collected-into f a r) e (rw (lt-ltb 256 (f .store .count) h) (ap (changed (Refused 2 0)) k))
 
     module _ (h : f .store .count ≤ 256) (c : Changed) (i : c ≡ insertion (f .store) r) where
       collected-merged : merged f (c .answer) c ≡ collected f r

@@ -1,8 +1,7 @@
 -- One record put or removed: document 01, causes 13 to 16. Definitions only; the laws are in Change/Laws.antt.
-use Prim.Native.Nat.{ℕ, zero, suc, _+_, _-_}
-use mathlib.Core.Bool.{Bool, false, not, cond}
-use mathlib.Core.List.{List, [], _∷_, _++_}
-use lib.ListN.{take, drop}
+use Prim.Native.Nat.{ℕ, zero, suc}
+use mathlib.Core.Bool.{Bool, not, cond}
+use mathlib.Core.List.{List, [], _∷_}
 use lib.Dec.{leb}
 use Rattle.calculus.specs.Sets.{any-of, select}
 use Rattle.calculus.specs.Order.{insert}
@@ -11,10 +10,9 @@ use Rattle.causes.specs.declared.Answer.the-variants.{Done, Refused}
 use Rattle.causes.specs.Causes.{check, first-cause, when, widths-fit}
 use Rattle.tables.specs.declared.Record.{Record}
 use Rattle.tables.specs.declared.Store.{Store}
-use Rattle.tables.specs.declared.Spot.{Spot}
 use Rattle.tables.specs.declared.Changed.{Changed}
-use Rattle.tables.specs.Records.{record-below, same-record, fits, blank}
-use Rattle.tables.specs.Store.{capacity, places-of, held, in-layout, of-places, store-of}
+use Rattle.tables.specs.Records.{record-below, same-record, fits}
+use Rattle.tables.specs.Store.{capacity, held, in-layout, store-of}
 pub mod Laws
 
 -- Whether a record is among those held.
@@ -57,40 +55,9 @@ removal-reply s r =
     s
     (store-of (s .widths) (without r (held s)))
 
--- ---- how the code goes about it; Change/Laws.antt shows that for a store in the layout it comes to the same
+-- ---- what the laws are stated with
 
 -- The number of records below r that stand before any other: r's place in an ascending list.
 abbrev pub rank : Record → List Record → ℕ
 rank r [] = zero
 rank r (p ∷ ps) = cond (record-below p r) (suc (rank r ps)) zero
-
--- Whether r stands at its place.
-abbrev pub found : Record → List Record → Bool
-found r [] = false
-found r (p ∷ ps) = cond (record-below p r) (found r ps) (same-record p r)
-
--- Whether r fits, its place, and whether it stands there.
-abbrev pub located : Store → Record → Spot
-located s r = record { fits = fits (s .widths) r; place = rank r (held s); held = found r (held s) }
-
--- r at place k, and the records from there on one place up; the last one goes.
-abbrev pub raised : List Record → ℕ → Record → List Record
-raised ps k r = take capacity (take k ps ++ (r ∷ drop k ps))
-
--- Without the record at place k, those past it one place down, and the last place blank.
-abbrev pub lowered : List Record → ℕ → List Record
-lowered ps k = take k ps ++ drop (suc k) ps ++ (blank ∷ [])
-
-abbrev pub insertion : Store → Record → Changed
-insertion s r =
-    reply
-    (first-cause (check 13 (when (not (fits (s .widths) r))) ∷ check 14 (when (found r (held s))) ∷ check 15 (when (leb capacity (s .count))) ∷ []))
-    s
-    (of-places (s .widths) (raised (places-of s) (rank r (held s)) r) (s .count + 1))
-
-abbrev pub deletion : Store → Record → Changed
-deletion s r =
-    reply
-    (first-cause (check 13 (when (not (fits (s .widths) r))) ∷ check 16 (when (not (found r (held s)))) ∷ []))
-    s
-    (of-places (s .widths) (lowered (places-of s) (rank r (held s))) (s .count - 1))

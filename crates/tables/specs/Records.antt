@@ -10,6 +10,10 @@ use Rattle.calculus.specs.Satisfaction.{Fact, fact}
 use Rattle.tables.specs.declared.Record.{Record}
 pub mod Laws
 
+-- The record of a relation and four values.
+abbrev pub record-of-parts : ℕ → ℕ → ℕ → ℕ → ℕ → Record
+record-of-parts k p q r s = record { relation = k; first = p; second = q; third = r; fourth = s }
+
 -- The four values.
 abbrev pub values-of : Record → List ℕ
 values-of r = r .first ∷ r .second ∷ r .third ∷ r .fourth ∷ []
@@ -20,7 +24,7 @@ numbers-of r = r .relation ∷ values-of r
 
 -- The record of an unused place: all zero.
 abbrev pub blank : Record
-blank = record { relation = 0; first = 0; second = 0; third = 0; fourth = 0 }
+blank = record-of-parts 0 0 0 0 0
 
 -- Records are ordered by relation, then by values from the first.
 abbrev pub record-below : Record → Record → Bool

@@ -1,12 +1,13 @@
 -- The store: document 01, "Tables and records", and causes 1 and 2. Definitions only; the laws are in Store/Laws.antt.
-use Prim.Native.Nat.{ℕ, _+_, _*_}
+use Prim.Native.Nat.{ℕ, _+_, _*_, _≤_, _-_}
+use mathlib.Core.Path.{_≡_}
 use mathlib.Core.Bool.{Bool, not, _&&_}
 use mathlib.Core.List.{List, [], _∷_, map}
-use lib.ListN.{length, getD, take, drop, set, replicate}
-use lib.Dec.{leb}
-use Rattle.calculus.specs.Sets.{all-of, union-of}
+use lib.ListN.{length, getD, take, drop, replicate}
+use lib.Dec.{leb, T}
+use Rattle.calculus.specs.Sets.{all-of, union-of, In}
 use Rattle.calculus.specs.Lists.{tabulate, padded}
-use Rattle.calculus.specs.Order.{is-ascending}
+use Rattle.calculus.specs.Order.{is-ascending, Ascending}
 use Rattle.calculus.specs.Satisfaction.{Database}
 use Rattle.causes.specs.declared.Answer.{Answer}
 use Rattle.causes.specs.Causes.{Check, check, first-cause, when, widths-fit}
@@ -31,14 +32,6 @@ record-at rs vs i =
       fourth = getD vs (4 * i + 3) 0;
     }
 
--- Four values, from place a on.
-abbrev pub set-four : List ℕ → ℕ → ℕ → ℕ → ℕ → ℕ → List ℕ
-set-four vs a p q r s = set (set (set (set vs a p) (a + 1) q) (a + 2) r) (a + 3) s
-
--- The values with those of r at place i.
-abbrev pub set-values : List ℕ → ℕ → Record → List ℕ
-set-values vs i r = set-four vs (4 * i) (r .first) (r .second) (r .third) (r .fourth)
-
 -- All record places, in order.
 unfoldable pub places : List ℕ → List ℕ → List Record
 places rs vs = tabulate (record-at rs vs) capacity
@@ -60,6 +53,13 @@ facts s = map (fact-of (s .widths)) (held s)
 -- The layout: at most 256 records, of present relations and zero past their widths, strictly ascending; places past the count all zero.
 abbrev pub in-layout : Store → Bool
 in-layout s = leb (s .count) capacity && all-of (fits (s .widths)) (held s) && is-ascending record-below (held s) && all-of is-blank (unused s)
+
+-- The same, as what holds rather than a test (`reflects-layout` in the laws).
+pub record Layout (s : Store) : Type 0 where
+  pub count-fits : s .count ≤ 256
+  pub all-fit : (r : Record) → In r (held s) → T (fits (s .widths) r)
+  pub ascending : Ascending record-below (held s)
+  pub rest-blank : unused s ≡ replicate (256 - s .count) blank
 
 -- Causes 1 and 2.
 abbrev pub store-checks : Store → List Check

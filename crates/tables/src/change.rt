@@ -13,7 +13,8 @@ ghost use mathlib.Core.Path.{_≡_};
 ghost use Prim.Native.Nat.{_+_, _-_, _≤_, _<_};
 ghost use lib.ListN.{take};
 ghost use Rattle.tables.specs.Store.{capacity, places, places-of, of-places};
-ghost use Rattle.tables.specs.Change.{rank, found, located, raised, lowered, insertion, deletion, put-reply, removal-reply};
+ghost use Rattle.tables.specs.Change.{rank, put-reply, removal-reply};
+ghost use Rattle.tables.specs.Code.Change.{found, located, raised, lowered, insertion, deletion};
 
 // The number of records below r that stand before any other, among the first count.
 fn rank_of<'a>(

@@ -8,7 +8,9 @@ use crate::change;
 use causes::Answer;
 use causes::RELATIONS;
 ghost use mathlib.Core.Path.{_≡_};
-ghost use Rattle.tables.specs.Fill.{beginning, collected, fill-reply};
+ghost use Rattle.tables.specs.Records.{record-of-parts};
+ghost use Rattle.tables.specs.Code.Fill.{beginning, collected};
+ghost use Rattle.tables.specs.Fill.{fill-reply};
 ghost use Rattle.tables.specs.Store.{no-store};
 
 // What a refused filling hands back: no relation, and no record. For other calls that are refused before they have a store, too.
@@ -45,9 +47,17 @@ pub fn begin(widths: [u8; RELATIONS]) -> Changed
     }
 }
 
-// A filling with one record more: causes 13 and 15. One that is refused stays so, and so does a store whose count is past the places, which no filling has.
-pub fn collect(f: Changed, r: Record) -> Changed
-    ensures { λ c. ⌜ c ≡ collected f r ⌝ }
+// A filling with one record more, given by its parts: causes 13 and 15. One that is refused stays so. A store whose count is past the places, which no
+// filling has, is refused with cause 2.
+pub fn collect(
+    f: Changed,
+    relation: u8,
+    first: u32,
+    second: u32,
+    third: u32,
+    fourth: u32,
+) -> Changed
+    ensures { λ c. ⌜ c ≡ collected f (record-of-parts relation first second third fourth) ⌝ }
 {
     let s = f.store;
     let answer = f.answer;
@@ -56,8 +66,18 @@ pub fn collect(f: Changed, r: Record) -> Changed
         return f;
     }
     if PLACES < count {
-        return f;
+        return Changed {
+            answer: Answer::Refused(2, 0),
+            store: none(),
+        };
     }
+    let r = Record {
+        relation,
+        first,
+        second,
+        third,
+        fourth,
+    };
     let added = change::insert(s, r);
     let reply = added.answer;
     match reply {
@@ -74,14 +94,15 @@ pub fn collect(f: Changed, r: Record) -> Changed
     }
 }
 
-// The store of the records of a list.
+// The store of the records of a list. Each record is taken apart, and `collect` is given its parts.
 pub fn fill(widths: [u8; RELATIONS], records: &[Record]) -> Changed
     ensures { λ c. ⌜ c ≡ fill-reply widths (now (records .entry)) ⌝ }
 {
     let mut f = begin(widths);
     let mut i = 0;
     while i < records.len() {
-        f = collect(f, records[i]);
+        let r = records[i];
+        f = collect(f, r.relation, r.first, r.second, r.third, r.fourth);
         i += 1;
     }
     f

@@ -5,7 +5,8 @@ use crate::Record;
 use crate::VALUES;
 ghost use mathlib.Core.Path.{_≡_};
 ghost use Prim.Native.Nat.{_<_};
-ghost use Rattle.tables.specs.Store.{capacity, record-at, set-values};
+ghost use Rattle.tables.specs.Store.{capacity, record-at};
+ghost use Rattle.tables.specs.Code.Store.{set-values};
 ghost use lib.ListN.{set};
 
 // The record at place i.

@@ -298,7 +298,8 @@ fn run_fill(body: &[u8]) {
     let mut f = tables::fill::begin(widths_of(body, 0));
     let mut at = 16;
     while at + 17 <= end {
-        f = tables::fill::collect(f, record_of(body, at));
+        let r = record_of(body, at);
+        f = tables::fill::collect(f, r.relation, r.first, r.second, r.third, r.fourth);
         at += 17;
     }
     list_changed(f);

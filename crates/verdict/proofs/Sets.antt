@@ -14,10 +14,10 @@ use Rattle.calculus.specs.Lists.Laws.{padded-at, padded-next}
 use Rattle.query.specs.Nodes.{kind, left, right, variable, equal-term, children}
 use Rattle.query.specs.Reading.{max-nodes}
 use Rattle.verdict.specs.declared.generate.Sets.{Sets}
-use Rattle.verdict.specs.Form.{IsForm}
+use Rattle.verdict.specs.Code.Form.{IsForm}
 use Rattle.verdict.specs.Bits.{has, variable-mask}
-use Rattle.verdict.specs.Generating.{plain-bits, denied-bits, sets-of, equated-set, plain-in, denied-in}
-use Rattle.verdict.specs.Generating.Variables.{child-below, plain-in-same, denied-in-same, plain-step, denied-step}
+use Rattle.verdict.specs.Code.Generating.{plain-bits, denied-bits, sets-of, equated-set, plain-in, denied-in}
+use Rattle.verdict.specs.Code.Generating.Variables.{child-below, plain-in-same, denied-in-same, plain-step, denied-step}
 
 -- ---- the last kind: what 32 bits leave past the others
 

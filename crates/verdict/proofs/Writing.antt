@@ -26,7 +26,8 @@ use Rattle.query.specs.Packing.{words, Fits}
 use Rattle.query.specs.Packing.Fields.{formed-kind}
 use Rattle.query.specs.Packing.Laws.{size-positive, length-words}
 use Rattle.query.specs.Accepted.Laws.{formula-node, formula-fits, formula-last}
-use Rattle.verdict.specs.Form.{form-of, IsAccepted, InQuery, written, last, true-word, settled, negated, joined, unit-word, quantified}
+use Rattle.verdict.specs.Form.{form-of}
+use Rattle.verdict.specs.Code.Form.{IsAccepted, InQuery, written, last, true-word, settled, negated, joined, unit-word, quantified}
 use Rattle.verdict.specs.Form.Laws.{join-kind, last-truth, fits-cp, last-kind, negated-words, joined-words, quantified-words, leaf-words, equality-words}
 
 -- ---- one element more

@@ -1,5 +1,5 @@
 -- Sets of numbers as one number, a bit for each, number 0 highest: document 01's 64-bit and 16-bit numbers. Definitions only; the laws are in Bits/Laws.antt.
-use Prim.Native.Nat.{ℕ, zero, suc, _+_, _*_, _-_, _^_}
+use Prim.Native.Nat.{ℕ, zero, suc, _+_, _*_}
 use mathlib.Core.Bool.{Bool, cond}
 use mathlib.Core.List.{List, [], _∷_}
 use lib.Bits.{bitAnd}
@@ -31,9 +31,3 @@ variable-mask xs = mask 16 xs
 -- Whether x is in a set of numbers below k: its bit is set.
 abbrev pub has : ℕ → ℕ → ℕ → Bool
 has k set x = nonzero (bitAnd set (mask k (x ∷ [])))
-
--- ---- how the code goes about it
-
--- The set without x.
-abbrev pub without : ℕ → ℕ → ℕ → ℕ
-without k set x = bitAnd set (2 ^ k - 1 - mask k (x ∷ []))

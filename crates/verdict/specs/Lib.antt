@@ -1,4 +1,4 @@
 pub mod Bits
 pub mod Form
-pub mod Generating
 pub mod Verdict
+pub mod Code

@@ -4,7 +4,8 @@ ghost use mathlib.Core.List.{[], _∷_};
 ghost use Prim.Native.Nat.{_<_};
 ghost use lib.ListN.{take};
 ghost use Rattle.query.specs.Reading.{max-nodes};
-ghost use Rattle.verdict.specs.Bits.{node-mask, variable-mask, has, without};
+ghost use Rattle.verdict.specs.Bits.{node-mask, variable-mask, has};
+ghost use Rattle.verdict.specs.Code.Generating.{without};
 
 // The bit that stands for node n. Where it comes from is not seen outside this function.
 pub fn node_bit(n: usize) -> u64

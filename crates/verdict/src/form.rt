@@ -14,7 +14,8 @@ ghost use Rattle.calculus.specs.Propagation.{cp};
 ghost use Rattle.query.specs.Decoding.{formula-at};
 ghost use Rattle.query.specs.Reading.{max-nodes};
 ghost use Rattle.query.specs.Packing.{words};
-ghost use Rattle.verdict.specs.Form.{written, settled, negated, joined, unit-word, quantified, form-of, InQuery, IsAccepted};
+ghost use Rattle.verdict.specs.Code.Form.{written, settled, negated, joined, unit-word, quantified, InQuery, IsAccepted};
+ghost use Rattle.verdict.specs.Form.{form-of};
 
 // The word of the truth value true; that of false is 0.
 const TRUE: u32 = 268435456;

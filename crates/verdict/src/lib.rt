@@ -16,7 +16,7 @@ use query::Query;
 ghost use mathlib.Core.Path.{_≡_};
 ghost use Rattle.calculus.specs.Generators.{columns as columns-read};
 ghost use Rattle.query.specs.Reading.{formula, columns-of};
-ghost use Rattle.verdict.specs.Form.{IsAccepted};
+ghost use Rattle.verdict.specs.Code.Form.{IsAccepted};
 ghost use Rattle.verdict.specs.Verdict.{refusal-with, judged as judgement, verdict-of};
 
 // What the verdict answers. Generators are numbers of nodes of the form, node 0 the highest of 64 bits; `ungenerated` has variable 0 as the highest of 16,

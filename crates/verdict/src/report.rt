@@ -8,9 +8,9 @@ use query::NODES;
 ghost use mathlib.Core.Path.{_≡_};
 ghost use Prim.Native.Nat.{ℕ, _≤_, _<_};
 ghost use Rattle.calculus.specs.Sets.{In};
-ghost use Rattle.query.specs.Reading.{max-columns};
-ghost use Rattle.verdict.specs.Form.{IsForm};
-ghost use Rattle.verdict.specs.Generating.{sets-of, variables-in, numbers-of, missing-from, unranged-in};
+ghost use Rattle.query.specs.Reading.{max-columns, variables-in};
+ghost use Rattle.verdict.specs.Code.Form.{IsForm};
+ghost use Rattle.verdict.specs.Code.Generating.{sets-of, numbers-of, missing-from, unranged-in};
 
 // A variable's number.
 fn wide(b: u8) -> u32

@@ -5,8 +5,8 @@ use crate::bits;
 use query::NODES;
 ghost use mathlib.Core.Path.{_≡_};
 ghost use Prim.Native.Nat.{_<_};
-ghost use Rattle.verdict.specs.Form.{IsForm};
-ghost use Rattle.verdict.specs.Generating.{sets-of, plain-nodes, denied-nodes, other-side};
+ghost use Rattle.verdict.specs.Code.Form.{IsForm};
+ghost use Rattle.verdict.specs.Code.Generating.{sets-of, plain-nodes, denied-nodes, other-side};
 
 // The other side of an equality of x.
 fn other(w: u32, x: u32) -> u32

@@ -5,9 +5,8 @@ use mathlib.Core.Path.{_≡_, ap, sym, subst⁻¹, _∙_}
 use mathlib.Core.List.{List}
 use lib.ListN.{length}
 use Rattle.standing.specs.declared.Change.{Change}
-use Rattle.standing.specs.Checks.{Kind, put, removal}
+use Rattle.standing.specs.Checks.{Kind, put, removal, kind-of}
 use Rattle.standing.specs.Change.{change-of}
-use Rattle.standing.specs.Checks.{kind-of}
 use Rattle.standing.specs.Change.Calls.{FewTold, few-told}
 use Rattle.bench.proofs.change.Statement.{statement}
 use Rattle.bench.proofs.change.Tie as tie

@@ -7,7 +7,8 @@ use mathlib.Core.Logic.{_⊎_, inl, inr, ⊎-elim}
 use mathlib.Core.List.{List, [], _∷_, _++_, map, map-append}
 use Rattle.calculus.specs.Sets.{In, here, there, _⊆_}
 use Rattle.calculus.specs.Sets.Laws.{in-nil, in-one, in-left, in-right, in-append, in-map}
-use Rattle.calculus.specs.Formula.{Fmla, truth, rel, eq, neg, conj, disj, exists, size, Node, node, nodes}
+use Rattle.calculus.specs.Formula.{Fmla, truth, rel, eq, neg, conj, disj, exists, size, Node, node, nodes, number-of}
+use Rattle.calculus.specs.Lists.{run}
 
 -- The nodes of a formula ω with the children φ and ψ.
 abbrev pub joined : Fmla → Fmla → Fmla → ℕ → List Node
@@ -20,15 +21,6 @@ pub right-node : (ω φ ψ : Fmla) (n : ℕ) → nodes ψ (n + size φ) ⊆ join
 right-node ω φ ψ n u i = in-left (node (n + (size φ + size ψ)) ω ∷ []) (in-right (nodes φ n) i)
 
 -- ---- the numbers
-
--- The number of a node.
-abbrev pub number-of : Node → ℕ
-number-of (node n φ) = n
-
--- The k numbers from n on.
-abbrev pub run : ℕ → ℕ → List ℕ
-run n zero = []
-run n (suc k) = n ∷ run (suc n) k
 
 run-append : (n j k : ℕ) → run n (j + k) ≡ run n j ++ run (n + j) k
 run-append n zero k = ap (run n) (zero-add k) ∙ ap (λ m. run m k) (sym (add-zero n))

@@ -9,7 +9,8 @@ use mathlib.Core.Option.{Option, none, some}
 use lib.ListN.{length, length-append, length-map}
 use Rattle.calculus.specs.Sets.{In, here, _⊆_}
 use Rattle.calculus.specs.Sets.Laws.{in-nil, in-one, in-left, in-right, in-append, in-map, from-union, reflects-member}
-use Rattle.calculus.specs.Reflects.{Reflects, holds, fails, reflects-eqb, reflects-map, reflects-same, decided}
+use Rattle.calculus.specs.Reflects.{Reflects, holds, fails}
+use Rattle.calculus.specs.Reflects.Laws.{reflects-eqb, reflects-map, reflects-same, decided}
 use Rattle.calculus.specs.Formula.{Term, var, con, Fmla, truth, rel, eq, neg, conj, disj, exists, fv, fv-term, fv-terms, size, node, nodes}
 use Rattle.calculus.specs.Formula.Laws.{formula-of, joined, left-node, right-node}
 use Rattle.calculus.specs.Satisfaction.{Pool, Database, Env, bind, value, values, Sat, known}
@@ -18,7 +19,8 @@ use Rattle.calculus.specs.Propagation.{exists-if-free, cp}
 use Rattle.calculus.specs.Substitution.{subst-for}
 use Rattle.calculus.specs.Generation.{Ap, ap-rel, ap-eq, GenBy, gen-false, gen-atom, gen-neg-neg, gen-neg-disj, gen-neg-conj, gen-disj, gen-conj-left, gen-conj-right, gen-conj-eq, gen-conj-eq′, gen-exists, Generated}
 use Rattle.calculus.specs.Generation.Laws.{Equates, origin, sat-neg-conj, sat-neg-neg}
-use Rattle.calculus.specs.Generators.{Leaves, leaf-where, first, both, equated, through, plain, denied, is-none, GenAt, at-false, at-atom, at-neg-neg, at-neg-disj-left, at-neg-disj-right, at-neg-conj, at-disj, at-conj-left, at-conj-right, at-conj-eq, at-conj-eq′, at-exists, LeavesRight, generated-by, not-generated, AtNode, Source, SourceAmong}
+use Rattle.calculus.specs.Generators.{Leaves, leaf-where, first, both, equated, through, plain, denied, is-none}
+use Rattle.calculus.specs.Sources.{GenAt, at-false, at-atom, at-neg-neg, at-neg-disj-left, at-neg-disj-right, at-neg-conj, at-disj, at-conj-left, at-conj-right, at-conj-eq, at-conj-eq′, at-exists, LeavesRight, generated-by, not-generated, AtNode, Source, SourceAmong, HasLeaves}
 
 -- ---- the 000 half of GenAt is 000's gen
 
@@ -128,10 +130,6 @@ equated-view (eq y (var z)) x = go (reflects-eqb y z) (reflects-eqb x y) (reflec
 at-equates : {x y n : ℕ} {φ ψ : Fmla} {G : List Fmla} {L : List ℕ} → Equates ψ x y → GenAt y φ n G L → GenAt x (conj φ ψ) n (map (λ χ. cp (subst-for χ y x)) G) L
 at-equates {x} {y} {n} {φ} {ψ} {G} {L} (inl e) d = subst⁻¹ (λ u. GenAt x (conj φ u) n (map (λ χ. cp (subst-for χ y x)) G) L) e (at-conj-eq d)
 at-equates {x} {y} {n} {φ} {ψ} {G} {L} (inr e) d = subst⁻¹ (λ u. GenAt x (conj φ u) n (map (λ χ. cp (subst-for χ y x)) G) L) e (at-conj-eq′ d)
-
--- Some leaves go with the set G.
-abbrev pub HasLeaves : ℕ → Fmla → ℕ → List Fmla → Type 0
-HasLeaves x φ n G = (L : List ℕ) × GenAt x φ n G L
 
 mutual
   pub gen-gen-at : (φ : Fmla) (n x : ℕ) (G : List Fmla) → GenBy x φ G → HasLeaves x φ n G

@@ -10,7 +10,8 @@ use lib.Seq.{drop-cons, take-append-add, ext-getD, set-at, append-snoc, set-appe
 use Rattle.calculus.specs.Sets.{all-of, any-of, In, here, there, select}
 use Rattle.calculus.specs.Lists.{tabulate, padded}
 use lib.Dec.{T}
-use Rattle.calculus.specs.Reflects.{Reflects, holds, reflects-map, reflects-and}
+use Rattle.calculus.specs.Reflects.{Reflects, holds}
+use Rattle.calculus.specs.Reflects.Laws.{reflects-map, reflects-and}
 use native.Mathlib.Nat.{sub-zero, zero-sub, suc-sub-suc, zero-add, suc-add}
 
 module _ {A : Type 0} where
@@ -236,3 +237,8 @@ module _ {A : Type 0} (n : ℕ) (z : A) where
       ap (λ k. set (padded n z (tabulate f i)) k (f i)) (sym (length-tabulate f i))
       ∙ padded-put (tabulate f i) (f i) (omega (arith, length-tabulate f i))
       ∙ ap (padded n z) (sym (tabulate-next f i) ∙ ap (tabulate f) (sym (add-one i)))
+
+-- Every member of a list of copies is what was copied.
+pub from-replicate : {A : Type 0} (n : ℕ) (r : A) {w : A} → In w (replicate n r) → w ≡ r
+from-replicate (suc n) r (here e) = e
+from-replicate (suc n) r (there i) = from-replicate n r i

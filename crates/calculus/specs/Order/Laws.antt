@@ -14,7 +14,8 @@ use borrow.Author.Tests.{le-ltb, eq-eqb, ne-eqb}
 use Rattle.calculus.specs.Sets.{In, here, there, _⊆_, select, same-list}
 use Rattle.calculus.specs.Sets.Laws.{in-nil, in-rest, subset-cons, same-cons, subset-swap, in-select, from-select}
 use Rattle.calculus.specs.Lists.Laws.{in-take}
-use Rattle.calculus.specs.Reflects.{Reflects, holds, fails, reflected, reflects, reflects-T, reflects-map, reflects-and, reflects-or, reflects-eqb, reflects-ltb}
+use Rattle.calculus.specs.Reflects.{Reflects, holds, fails}
+use Rattle.calculus.specs.Reflects.Laws.{reflected, reflects, reflects-T, reflects-map, reflects-and, reflects-or, reflects-eqb, reflects-ltb}
 use Rattle.calculus.specs.Order.{StrictOrder, Ascending, nothing, before, insert, sort, lexicographic, leads, is-ascending}
 
 pub ltb-order : StrictOrder ltb

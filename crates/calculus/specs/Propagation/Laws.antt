@@ -8,8 +8,9 @@ use mathlib.Core.List.{List, [], _∷_, _++_}
 use lib.Dec.{T, eqb}
 use Rattle.calculus.specs.Sets.{In, _⊆_, union-of}
 use Rattle.calculus.specs.Sets.Laws.{in-nil, in-left, in-right, in-append-map, in-remove, from-remove, reflects-member}
-use Rattle.calculus.specs.Iff.{iff-either, iff-some}
-use Rattle.calculus.specs.Reflects.{Reflects, holds, fails, reflects-true, reflects-false, reflects-eqb}
+use Rattle.calculus.specs.Reflects.Iff.{iff-either, iff-some}
+use Rattle.calculus.specs.Reflects.{Reflects, holds, fails}
+use Rattle.calculus.specs.Reflects.Laws.{reflects-true, reflects-false, reflects-eqb}
 use Rattle.calculus.specs.Formula.{Term, var, con, Fmla, truth, rel, eq, neg, conj, disj, exists, fv, gather, relations, places, places-term, size}
 use Rattle.calculus.specs.Satisfaction.{Pool, Database, Env, bind, Sat, known}
 use Rattle.calculus.specs.Satisfaction.Laws.{sat-agree, bind-other, known-mono}

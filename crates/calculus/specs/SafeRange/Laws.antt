@@ -7,7 +7,8 @@ use mathlib.Core.Bool.{Bool, true, false, not, cond}
 use mathlib.Core.List.{List, [], _∷_, _++_, map}
 use lib.Dec.{eqb}
 use Rattle.calculus.specs.Sets.{here}
-use Rattle.calculus.specs.Reflects.{Reflects, holds, fails, reflects-eqb}
+use Rattle.calculus.specs.Reflects.{Reflects, holds, fails}
+use Rattle.calculus.specs.Reflects.Laws.{reflects-eqb}
 use Rattle.calculus.specs.Formula.{Term, var, con, Fmla, truth, rel, eq, neg, conj, disj, exists, size, Node, node, nodes}
 use Rattle.calculus.specs.Formula.Laws.{Has, has-left, has-right, from-one, from-append, joined, node-shift}
 use Rattle.calculus.specs.Propagation.{exists-if-free, is-truth, cp-eq, cp-neg, cp-conj, cp}

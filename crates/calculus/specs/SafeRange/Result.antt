@@ -8,7 +8,8 @@ use mathlib.Core.List.{List, [], _∷_}
 use lib.Dec.{ltb}
 use Rattle.calculus.specs.Sets.{In, here, _⊆_}
 use Rattle.calculus.specs.Sets.Laws.{in-nil, in-one, in-select, from-select, in-union, from-union, in-cond}
-use Rattle.calculus.specs.Reflects.{Reflects, holds, fails, reflects, reflected, reflects-false, reflects-map, reflects-and}
+use Rattle.calculus.specs.Reflects.{Reflects, holds, fails}
+use Rattle.calculus.specs.Reflects.Laws.{reflects, reflected, reflects-false, reflects-map, reflects-and}
 use Rattle.calculus.specs.Formula.{Fmla, truth, rel, eq, neg, conj, disj, exists, fv, Node, node, nodes}
 use Rattle.calculus.specs.Satisfaction.{Pool, Database, Sat, Known, known}
 use Rattle.calculus.specs.Satisfaction.Laws.{known-means}
@@ -17,7 +18,7 @@ use Rattle.calculus.specs.Propagation.Laws.{cp-sat, known-cp}
 use Rattle.calculus.specs.Generation.{Generated}
 use Rattle.calculus.specs.Generators.{plain, is-none, columns, unranged-node, verdict, is-empty, safe}
 use Rattle.calculus.specs.Generators.Laws.{reflects-none, generated-decided, generated-known}
-use Rattle.calculus.specs.SafeRange.{SafeRange}
+use Rattle.calculus.specs.SafeRange.{SafeRange, Unranged}
 use Rattle.calculus.specs.Order.{Ascending}
 use Rattle.calculus.specs.Order.Laws.{ltb-order, sort-members, sort-ascending}
 use Rattle.calculus.specs.Rows.{Row, row-env, RowSat, Endless, endless, listed}
@@ -51,10 +52,6 @@ ungenerated-means φ x = (
   where
     test : ℕ → Bool
     test u = is-none (plain (cp φ) 0 u)
-
--- The formula χ is an exists whose variable isn't generated in its child.
-abbrev pub Unranged : Fmla → Type 0
-Unranged χ = (z : ℕ) × (ψ : Fmla) × (χ ≡ exists z ψ) × ¬ Generated z ψ
 
 from-unranged : (n k : ℕ) (χ : Fmla) → In k (unranged-node (node n χ)) → (k ≡ n) × Unranged χ
 from-unranged n k (truth b) i = absurd (in-nil i)

@@ -7,7 +7,8 @@ use mathlib.Core.Bool.{Bool, true, false, not, cond}
 use mathlib.Core.List.{List, [], _∷_, _++_, map, append-assoc}
 use lib.Dec.{T, eqb}
 use Rattle.calculus.specs.Sets.{Any, In, here, there, _⊆_, any-of, all-of, select, union-of, member, remove, fresh, same-by, same-list}
-use Rattle.calculus.specs.Reflects.{Reflects, holds, fails, reflects, reflected, reflects-map, reflects-not, reflects-and, reflects-or, reflects-eqb}
+use Rattle.calculus.specs.Reflects.{Reflects, holds, fails}
+use Rattle.calculus.specs.Reflects.Laws.{reflects, reflected, reflects-map, reflects-not, reflects-and, reflects-or, reflects-eqb}
 
 pub in-nil : {A : Type 0} {x : A} → ¬ In x []
 in-nil = elim [ ]

@@ -9,8 +9,9 @@ use mathlib.Core.List.{List, [], _∷_, _++_, map}
 use lib.Dec.{eqb}
 use Rattle.calculus.specs.Sets.{In, here, there, remove}
 use Rattle.calculus.specs.Sets.Laws.{in-nil, in-one, in-left, in-right, in-append, in-append-map, in-remove, from-remove, fresh-out}
-use Rattle.calculus.specs.Iff.{iff-path, iff-eq, iff-either, iff-some}
-use Rattle.calculus.specs.Reflects.{Reflects, holds, fails, reflects-map, reflects-eqb}
+use Rattle.calculus.specs.Reflects.Iff.{iff-path, iff-eq, iff-either, iff-some}
+use Rattle.calculus.specs.Reflects.{Reflects, holds, fails}
+use Rattle.calculus.specs.Reflects.Laws.{reflects-map, reflects-eqb}
 use Rattle.calculus.specs.Formula.{Term, var, con, Fmla, truth, rel, eq, neg, conj, disj, exists, fv, fv-term, fv-terms}
 use Rattle.calculus.specs.Satisfaction.{fact, Database, Pool, Env, bind, value, values, Sat}
 use Rattle.calculus.specs.Satisfaction.Laws.{bind-same, bind-other, sat-agree}

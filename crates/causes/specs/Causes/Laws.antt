@@ -6,11 +6,12 @@ use native.Mathlib.Omega.{arith}
 use mathlib.Core.Path.{_≡_, refl, subst, ap, _∙_, sym}
 use mathlib.Core.Logic.{_⊎_, inl, inr}
 use mathlib.Core.Bool.{Bool, true, false, cond, not}
-use Rattle.causes.specs.Causes.{widths-fit, Finding, clear, met, or-else, lowest, is-done, Check, check, first-cause, when}
+use Rattle.causes.specs.Causes.{place, widths-fit, Finding, clear, met, or-else, lowest, is-done, number, Check, check, first-cause, when, AllClear, numbered}
 use lib.ListN.{getD}
-use lib.Dec.{T, leb, leb→le}
-use Rattle.calculus.specs.Lists.Laws.{all-of-getD}
+use lib.Dec.{T, leb, leb→le, ltb}
+use Rattle.calculus.specs.Lists.Laws.{and-holds, all-of-getD}
 use Rattle.calculus.specs.Reflects.{Reflects, holds, fails}
+use Rattle.calculus.specs.Reflects.Laws.{reflected, reflects-ltb}
 use Rattle.causes.specs.declared.Answer.{Answer}
 use Rattle.causes.specs.declared.Answer.the-variants.{Done, Refused}
 use mathlib.Core.List.{List, [], _∷_, _++_}
@@ -33,19 +34,20 @@ lowest-met faulty i (suc n) c f h = go (lowest-met faulty i n c f) (before-or-la
     go r (inl l) = rw (r l)
     go r (inr e) = rw (e, c, f)
 
+-- A cause that is met is not clear.
+never-clear : {p : ℕ} → met p ≡ clear → ⊥
+never-clear e = let z : _≡_ {A = ℕ} 0 1 = cc in omega arith
+
 -- A search that is clear found no node below n with the fault.
 pub lowest-clear : (faulty : ℕ → Bool) (n : ℕ) → lowest faulty n ≡ clear → (i : ℕ) → i < n → faulty i ≡ false
 lowest-clear faulty zero c i h = absurd (omega arith)
 lowest-clear faulty (suc n) c i h = go (lowest faulty n) (faulty n) refl refl (λ p l. lowest-clear faulty n p i l) c (before-or-last i n h)
   where
-    never : {p : ℕ} → met p ≡ clear → ⊥
-    never e = let z : _≡_ {A = ℕ} 0 1 = cc in omega arith
-
     go : (l : Finding) (b : Bool) → lowest faulty n ≡ l → faulty n ≡ b → (lowest faulty n ≡ clear → i < n → faulty i ≡ false) → or-else l (cond b (met n) clear) ≡ clear → (i < n) ⊎ (n ≡ i) → faulty i ≡ false
-    go clear true p q r e w = absurd (never e)
+    go clear true p q r e w = absurd (never-clear e)
     go clear false p q r e (inl l) = r p l
     go clear false p q r e (inr f) = subst (λ k. faulty k ≡ false) f q
-    go (met k) b p q r e w = absurd (never e)
+    go (met k) b p q r e w = absurd (never-clear e)
 
 pub reflects-done : (a : Answer) → Reflects (a ≡ Done) (is-done a)
 reflects-done Done = holds refl
@@ -76,11 +78,6 @@ lowest-least faulty (suc n) i e = go (lowest faulty n) (faulty n) refl refl (λ 
     go (met k) b p q r e = let h = r (p ∙ ap met (same k e)) in (omega arith, h .1, h .2)
 
 -- ---- an answer of Done
-
--- Every check is clear.
-abbrev pub AllClear : List Check → Type 0
-AllClear [] = Unit {0}
-AllClear (check n f ∷ cs) = (f ≡ clear) × AllClear cs
 
 pub first-cause-done : (cs : List Check) → first-cause cs ≡ Done → AllClear cs
 first-cause-done [] e = tt
@@ -126,6 +123,33 @@ first-clear n false cs e = (refl, e)
 pub first-passed : (n : ℕ) (b : Bool) (cs : List Check) → first-cause (check n (when (not b)) ∷ cs) ≡ Done → T b × (first-cause cs ≡ Done)
 first-passed n true cs e = (tt, e)
 first-passed n false cs e = absurd (never-done e)
+
+-- ---- numbers
+
+-- A refusal has the number and place of the first cause met; and where none is met, the call is worked on.
+pub first-met : (cs : List Check) → AllClear cs → (n p : ℕ) (ds : List Check) → (number (first-cause (cs ++ (check n (met p) ∷ ds))) ≡ n) × (place (first-cause (cs ++ (check n (met p) ∷ ds))) ≡ p)
+first-met [] c n p ds = (refl, refl)
+first-met (check m clear ∷ cs) c n p ds = first-met cs (c .1) n p ds
+first-met (check m (met q) ∷ cs) c n p ds = absurd (never-clear (c .0))
+
+pub all-clear-done : (cs : List Check) → AllClear cs → first-cause cs ≡ Done
+all-clear-done [] c = refl
+all-clear-done (check m clear ∷ cs) c = all-clear-done cs (c .1)
+all-clear-done (check m (met q) ∷ cs) c = absurd (never-clear (c .0))
+
+-- Where every check has a number above 0, so does a refusal,
+pub numbered-refused : (cs : List Check) → T (numbered cs) → (n p : ℕ) → first-cause cs ≡ Refused n p → 0 < n
+numbered-refused [] t n p e = absurd (never-done (sym e))
+numbered-refused (check m clear ∷ cs) t n p e = numbered-refused cs (and-holds (ltb 0 m) (numbered cs) t .1) n p e
+numbered-refused (check m (met q) ∷ cs) t n p e = subst (λ k. 0 < k) (ap number e) (reflected (reflects-ltb 0 m) (and-holds (ltb 0 m) (numbered cs) t .0))
+
+-- and the number 0 means that the call was worked on.
+pub numbered-done : (cs : List Check) → T (numbered cs) → number (first-cause cs) ≡ 0 → first-cause cs ≡ Done
+numbered-done cs t z = go (first-cause cs) refl z
+  where
+    go : (a : Answer) → first-cause cs ≡ a → number a ≡ 0 → a ≡ Done
+    go Done e f = refl
+    go (Refused n p) e f = absurd (omega (arith, numbered-refused cs t n p e))
 
 -- ---- cause 1
 

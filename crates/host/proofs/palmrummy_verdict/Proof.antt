@@ -17,13 +17,16 @@ judge-requires c κs = search needs
 enum-known-answer : tie.Need-enum-known-answer
 enum-known-answer c = search needs
 
-refused-requires : tie.Need-refused-requires
-refused-requires c κs = search needs
+code-requires : tie.Need-code-requires
+code-requires c κs = search needs
+
+add-result : tie.Need-add-result
+add-result c = search needs
 
 returns : tie.Need-returns
 returns c =
     let t = c .before .before in let j = t .before .before in let a = j .before .before .args in
-    verdict-refused (a .input .now) (a .out .now) (j .judge .result) (j .judge .ensures) _ _ _ (t .answer .given .1) (c .refused .ensures)
+    verdict-refused (a .input .now) (a .out .now) (j .judge .result) (j .judge .ensures) _ _ _ (t .answer .given .1) (c .code .ensures .0)
 
 enum-told : tie.Need-enum-told
 enum-told c = search needs
@@ -44,7 +47,8 @@ palmrummy-verdict-spec =
     (tie.spec
     judge-requires
     enum-known-answer
-    refused-requires
+    code-requires
+    add-result
     returns
     enum-told
     written-requires

@@ -9,7 +9,7 @@ use lib.ListN.{length, getD, replicate, length-set}
 use Rattle.calculus.specs.Sets.{union-of}
 use Rattle.calculus.specs.Lists.{padded}
 use Rattle.verdict.specs.declared.Verdict.{Verdict}
-use Rattle.answer.specs.Listing.{overlay}
+use Rattle.answer.specs.Code.Listing.{overlay}
 use Rattle.host.specs.Entry.{flag, short-bytes, long-bytes, form-bytes, verdict-fields, verdict-size}
 use Rattle.calculus.specs.Lists.Laws.{four-of}
 use Rattle.host.specs.Entry.Laws.{front-run, front-padded, length-form}
@@ -159,7 +159,7 @@ slice-aggregate-long-5 : tie.Need-slice-aggregate-long-5
 slice-aggregate-long-5 c = search needs
 
 long-requires-5 : tie.Need-long-requires-5
-long-requires-5 c κs = (simp length-set (omega arith), omega arith)
+long-requires-5 c κs = simp length-set (omega arith)
 
 slice-aggregate-form : tie.Need-slice-aggregate-form
 slice-aggregate-form c = search needs

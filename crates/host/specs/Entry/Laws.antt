@@ -1,18 +1,18 @@
 -- Laws of the entries: numbers written one after the other, and the replies by what was found.
-use Prim.Native.Nat.{ℕ, _+_, _*_, _/_, _≤_, _<_, _^_}
+use Prim.Native.Nat.{ℕ, _+_, _*_, _≤_, _<_, _^_}
 use native.Mathlib.Nat.{min-le-left}
 use native.Mathlib.Omega.{arith}
 use native.Mathlib.Numerals.{add-one}
 use mathlib.Core.Path.{_≡_, refl, sym, ap, subst, subst⁻¹, _∙_}
-use mathlib.Core.Bool.{Bool, true, false, cond}
-use mathlib.Core.List.{List, [], _∷_, _++_, append-assoc}
-use lib.ListN.{length, getD, take, drop, replicate, length-replicate, length-append, length-take, length-drop}
-use lib.Seq.{take-suc, length-take-le, take-at}
+use mathlib.Core.Bool.{Bool, true, false}
+use mathlib.Core.List.{List, [], _∷_, _++_}
+use lib.ListN.{length, getD, take, replicate, length-replicate, length-append, length-take}
+use lib.Seq.{take-suc, length-take-le}
 use Rattle.calculus.specs.Sets.{union-of}
 use Rattle.calculus.specs.Sets.Laws.{union-append}
 use Rattle.calculus.specs.Lists.{padded}
 use Rattle.calculus.specs.Lists.Laws.{drop-replicate}
-use Rattle.calculus.specs.Reflects.{Reflects, holds, fails, reflects-ltb}
+use Rattle.calculus.specs.Rows.{Row, Result, endless, listed}
 use Rattle.causes.specs.declared.Answer.{Answer}
 use Rattle.causes.specs.declared.Answer.the-variants.{Done, Refused}
 use Rattle.causes.specs.Causes.{first-cause}
@@ -24,14 +24,15 @@ use Rattle.query.specs.Packing.Bytes.{length-bytes}
 use Rattle.verdict.specs.declared.Verdict.{Verdict}
 use Rattle.verdict.specs.Verdict.{judged}
 use Rattle.verdict.specs.Form.Laws.{form-accepted}
-use Rattle.answer.specs.Listing.{numbers, overlay}
-use Rattle.answer.specs.Listing.Laws.{overlay-append, overlay-front}
-use Rattle.answer.specs.Listing.Rows.{numbers-width}
+use Rattle.answer.specs.Code.Listing.{overlay}
+use Rattle.answer.specs.Code.Listing.Laws.{overlay-append, overlay-front}
+use Rattle.answer.specs.Reply.{front-bytes}
 use Rattle.packed.specs.declared.Listing.{Listing}
-use Rattle.packed.specs.Packed.{widths-in, query-in, query-read, input-checks, judged-reply, judged-of, result-in, list-checks, listing-of}
+use Rattle.packed.specs.Packed.{widths-in, query-in, query-read, input-checks, judged-reply, judged-of, result-in, list-checks, listing-reply, byte-listing-of}
 use Rattle.packed.specs.Packed.Laws.{query-accepted, input-few}
-use Rattle.packed.specs.Packed.Told.{columns-in, Told, told-refused, told-done, told-columns, told-endless, told-rows}
-use Rattle.host.specs.Entry.{refusal, code-endless, form-bytes, verdict-bytes, verdict-reply, verdict-entry, room-in, row-bytes, answer-reply, answer-entry, Few, Writable}
+use Rattle.packed.specs.Packed.Told.{rows-fit}
+use Rattle.host.specs.Entry.{code, code-endless, answer-refusal, form-bytes, verdict-bytes, verdict-reply, verdict-entry, room-in, answer-reply, answer-entry}
+use Rattle.host.specs.Code.Entry.{Few, Writable}
 
 -- ---- written from a place on: xs so far, then more
 
@@ -74,8 +75,8 @@ module _ (bs out : List ℕ) (v : Verdict) (e : v ≡ judged-of bs) where
   reply-is : (a : Answer) → v .answer ≡ a → verdict-reply a v out ≡ verdict-entry bs out
   reply-is a f = ap (λ b. verdict-reply b v out) (sym f) ∙ ap (λ w. verdict-reply (w .answer) w out) e
 
-  pub verdict-refused : (n p r : ℕ) → v .answer ≡ Refused n p → r ≡ refusal n p → (r, out) ≡ verdict-entry bs out
-  verdict-refused n p r f g = ap (λ k. (k, out)) g ∙ reply-is (Refused n p) f
+  pub verdict-refused : (n p k : ℕ) → v .answer ≡ Refused n p → k ≡ code (Refused n p) → (2 ^ 31 + k, out) ≡ verdict-entry bs out
+  verdict-refused n p k f g = ap (λ z. (2 ^ 31 + z, out)) g ∙ reply-is (Refused n p) f
 
   pub verdict-written : (o : List ℕ) → v .answer ≡ Done → o ≡ verdict-bytes v → (0, o) ≡ verdict-entry bs out
   verdict-written o f g = ap (λ x. (0, x)) g ∙ reply-is Done f
@@ -112,54 +113,33 @@ verdict-writable bs v e small done = subst⁻¹ Writable e (judged-writable bs (
 
 -- ---- the answers' reply, by what is told
 
--- The room fits into the bytes.
-pub room-fits : (n : ℕ) → (room-in n ≤ 4096) × (4 * room-in n ≤ n)
-room-fits n = go (reflects-ltb 4096 (n / 4))
-  where
-    go : {b : Bool} → Reflects (4096 < n / 4) b → (cond b 4096 (n / 4) ≤ 4096) × (4 * cond b 4096 (n / 4) ≤ n)
-    go (holds l) = (omega arith, omega (arith, l))
-    go (fails l) = (omega (arith, l), omega arith)
+-- What the list call tells, as one number.
+abbrev told-code : Answer → Bool → ℕ → ℕ
+told-code Done true rows = code-endless
+told-code Done false rows = rows
+told-code (Refused n p) b rows = answer-refusal (Refused n p)
 
-module _ (bs out buffer after : List ℕ) (l : Listing) (len : length buffer ≡ room-in (length out)) (e : (l, after) ≡ listing-of bs buffer) where
-  by-cause : (a : Answer) → first-cause (list-checks bs (length buffer)) ≡ a → answer-reply a (result-in bs) out ≡ answer-entry bs out
-  by-cause a c = ap (λ b. answer-reply b (result-in bs) out) (sym c ∙ ap (λ k. first-cause (list-checks bs k)) len)
+abbrev coded : Listing × List ℕ → ℕ × List ℕ
+coded reply = (told-code (reply .0 .answer) (reply .0 .endless) (reply .0 .rows), reply .1)
 
-  pub answer-refused : (n p r : ℕ) → l .answer ≡ Refused n p → r ≡ refusal n p → (r, out) ≡ answer-entry bs out
-  answer-refused n p r a f = ap (λ k. (k, out)) f ∙ by-cause (Refused n p) (told-refused bs buffer l after e n p a .0)
+coded-reply : (a : Answer) (q : Query) (found : Result) (out : List ℕ) → coded (listing-reply front-bytes a q found out) ≡ answer-reply a found out
+coded-reply Done q endless out = refl
+coded-reply Done q (listed rows) out = refl
+coded-reply (Refused n p) q found out = refl
 
-  module _ (a : l .answer ≡ Done) where
-    worked : answer-reply Done (result-in bs) out ≡ answer-entry bs out
-    worked = by-cause Done (told-done bs buffer l after e a)
+module _ (bs out after : List ℕ) (l : Listing) (e : (l, after) ≡ byte-listing-of bs out) where
+  told : coded (l, after) ≡ answer-entry bs out
+  told = ap coded e ∙ coded-reply (first-cause (list-checks bs (room-in (length out)))) (query-read bs) (result-in bs) out
 
-    pub answer-endless : l .endless ≡ true → (code-endless, out) ≡ answer-entry bs out
-    answer-endless t = ap (λ f. answer-reply Done f out) (sym (told-endless bs buffer l after e a t .0)) ∙ worked
+  pub answer-refused : (n p k : ℕ) → l .answer ≡ Refused n p → k ≡ code (Refused n p) → (code-endless + k, after) ≡ answer-entry bs out
+  answer-refused n p k a f = ap (λ z. (code-endless + z, after)) f ∙ ap (λ c. (told-code c (l .endless) (l .rows), after)) (sym a) ∙ told
 
-    module _ (f : l .endless ≡ false) where
-      abbrev told : Told bs buffer l after
-      told = told-rows bs buffer l after e a f
+  pub answer-endless : l .answer ≡ Done → l .endless ≡ true → (code-endless, after) ≡ answer-entry bs out
+  answer-endless a t = (λ i. (told-code (sym a i) (sym t i) (l .rows), after)) ∙ told
 
-      numbers-are : l .rows * l .columns .count ≡ length (numbers (told .rows))
-      numbers-are = (λ j. told .counted j * told-columns bs buffer l after e a j .count) ∙ sym (numbers-width (length (columns-in bs)) (told .rows) (told .wide))
+  pub answer-listed : l .answer ≡ Done → l .endless ≡ false → (l .rows, after) ≡ answer-entry bs out
+  answer-listed a f = (λ i. (told-code (sym a i) (sym f i) (l .rows), after)) ∙ told
 
-      pub listed-fit : l .rows * l .columns .count ≤ room-in (length out)
-      listed-fit = omega (arith, numbers-are, numbers-width (length (columns-in bs)) (told .rows) (told .wide), told .fitting, len)
-
-      pub listed-length : length after ≡ length buffer
-      listed-length =
-          let ns : List ℕ = numbers (told .rows) in
-          ap length (told .written) ∙ length-append ns (drop (length ns) buffer) ∙ omega (arith, length-drop (length ns) buffer, numbers-width (length (columns-in bs)) (told .rows) (told .wide), told .fitting)
-
-      pub listed-few : l .rows ≤ 4097
-      listed-few = omega (arith, told .counted, told .few, len, room-fits (length out) .0)
-
-      pub answer-listed : (rest : List ℕ) (o : List ℕ) → o ≡ overlay 0 (union-of word-bytes (take (l .rows * l .columns .count) (after ++ rest))) out → (l .rows, o) ≡ answer-entry bs out
-      answer-listed rest o g = (λ j. (told .counted j, (g ∙ ap (λ ns. overlay 0 (union-of word-bytes ns) out) front ∙ overlay-front (row-bytes (told .rows)) out fits) j)) ∙ ap (λ x. answer-reply Done x out) (sym (told .answered)) ∙ worked
-        where
-          front : take (l .rows * l .columns .count) (after ++ rest) ≡ numbers (told .rows)
-          front =
-              ap (λ x. take (l .rows * l .columns .count) (x ++ rest)) (told .written)
-              ∙ ap (take (l .rows * l .columns .count)) (append-assoc (numbers (told .rows)) (drop (length (numbers (told .rows))) buffer) rest)
-              ∙ take-at (numbers (told .rows)) (drop (length (numbers (told .rows))) buffer ++ rest) (l .rows * l .columns .count) (sym numbers-are)
-
-          fits : length (row-bytes (told .rows)) ≤ length out
-          fits = omega (arith, length-bytes (numbers (told .rows)), numbers-are, listed-fit, room-fits (length out) .1)
+-- A number of rows is below 2^63, so it tells neither an endless answer nor a refusal: the rows fit into the output, whose length is a 64-bit number.
+pub rows-below-endless : (bs out : List ℕ) → length out < 2 ^ 64 → first-cause (list-checks bs (room-in (length out))) ≡ Done → (rows : List Row) → result-in bs ≡ listed rows → length rows < code-endless
+rows-below-endless bs out s done rows e = omega (arith, s, rows-fit bs (room-in (length out)) done rows e .2)

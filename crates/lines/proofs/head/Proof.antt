@@ -7,7 +7,8 @@ use mathlib.Core.Bool.{cond}
 use mathlib.Core.List.{List, []}
 use lib.ListN.{length, take}
 use Rattle.calculus.specs.Lists.Laws.{four-of}
-use Rattle.lines.specs.Text.{line, word-safe, word-unsafe, word-columns, wrote}
+use Rattle.lines.specs.Text.{line, word-safe, word-unsafe, word-columns}
+use Rattle.lines.specs.Code.Text.{wrote}
 use Rattle.lines.specs.Text.Laws.{wrote-then, wrote-end, wrote-length, length-verdict}
 use Rattle.lines.proofs.head.Statement.{statement}
 use Rattle.lines.proofs.head.Tie as tie

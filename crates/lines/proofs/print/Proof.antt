@@ -9,10 +9,11 @@ use lib.ListN.{length, take, length-append, length-replicate}
 use lib.Seq.{length-take-le}
 use Rattle.calculus.specs.Sets.{union-of}
 use Rattle.causes.specs.declared.Answer.the-variants.{Done, Refused}
-use Rattle.answer.specs.Listing.{cut}
+use Rattle.answer.specs.Code.Listing.{cut}
 use Rattle.packed.specs.declared.Listing.{Listing}
 use Rattle.packed.specs.Packed.{listing-of}
-use Rattle.lines.specs.Text.{line, word-refused, word-row, word-rows, word-endless, head-text, text-of, printed, wrote}
+use Rattle.lines.specs.Text.{line, word-refused, word-row, word-rows, word-endless, head-text, text-of, printed}
+use Rattle.lines.specs.Code.Text.{wrote}
 use Rattle.lines.specs.Text.Laws.{wrote-then, wrote-end, wrote-length, wrote-printed, length-head, length-line, length-cut-rows}
 use Rattle.lines.specs.Text.Output.{text-refused, text-endless, text-rows, few-columns, rows-fit}
 use Rattle.lines.proofs.print.Statement.{statement}

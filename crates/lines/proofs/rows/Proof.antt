@@ -9,9 +9,10 @@ use mathlib.Core.List.{List, [], _∷_, _++_, append-nil}
 use lib.ListN.{length, take, drop}
 use Rattle.calculus.specs.Sets.{union-of}
 use Rattle.calculus.specs.Sets.Laws.{union-append}
-use Rattle.answer.specs.Listing.{cut}
-use Rattle.answer.specs.Listing.Cut.{row-end, cut-next, position-next}
-use Rattle.lines.specs.Text.{line, word-row, wrote}
+use Rattle.answer.specs.Code.Listing.{cut}
+use Rattle.answer.specs.Code.Listing.Cut.{row-end, cut-next, position-next}
+use Rattle.lines.specs.Text.{line, word-row}
+use Rattle.lines.specs.Code.Text.{wrote}
 use Rattle.lines.specs.Text.Laws.{wrote-none, wrote-then, wrote-end, wrote-length, length-cut-rows}
 use Rattle.lines.proofs.rows.Statement.{statement}
 use Rattle.lines.proofs.rows.Tie as tie

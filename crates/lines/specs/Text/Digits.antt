@@ -8,15 +8,11 @@ use native.Mathlib.Omega.{arith}
 use native.Mathlib.Nat.{pow-suc}
 use lib.ListN.{length, getD, length-append, List·getD-append}
 use lib.Dec.{ltb}
-use Rattle.calculus.specs.Reflects.{Reflects, holds, fails, reflects-ltb}
+use Rattle.calculus.specs.Reflects.{Reflects, holds, fails}
+use Rattle.calculus.specs.Reflects.Laws.{reflects-ltb}
 use Rattle.calculus.specs.Sets.{In}
 use Rattle.calculus.specs.Sets.Laws.{in-nil, in-one, in-append, in-cond}
-use Rattle.lines.specs.Text.{digits, decimal}
-
--- The number that digits stand for.
-abbrev pub reading-from : ℕ → List ℕ → ℕ
-reading-from n [] = n
-reading-from n (d ∷ ds) = reading-from (n * 10 + (d - 48)) ds
+use Rattle.lines.specs.Text.{digits, decimal, reading-from}
 
 -- One digit more.
 reading-snoc : (n : ℕ) (ds : List ℕ) (d : ℕ) → reading-from n (ds ++ (d ∷ [])) ≡ reading-from n ds * 10 + (d - 48)

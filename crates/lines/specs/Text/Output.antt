@@ -10,8 +10,9 @@ use Rattle.calculus.specs.Sets.{union-of}
 use Rattle.causes.specs.declared.Answer.{Answer}
 use Rattle.causes.specs.declared.Answer.the-variants.{Done, Refused}
 use Rattle.causes.specs.Causes.{first-cause}
-use Rattle.answer.specs.Listing.{numbers, cut}
-use Rattle.answer.specs.Listing.Cut.{cut-numbers}
+use Rattle.calculus.specs.Rows.{numbers}
+use Rattle.answer.specs.Code.Listing.{cut}
+use Rattle.answer.specs.Code.Listing.Cut.{cut-numbers}
 use Rattle.packed.specs.declared.Listing.{Listing}
 use Rattle.packed.specs.Packed.{query-read, result-in, list-checks, listing-of}
 use Rattle.packed.specs.Packed.Told.{columns-in, Told, told-refused, told-done, told-safe, told-columns, told-few-columns, told-endless, told-rows}

@@ -5,8 +5,9 @@ use mir.Syntax.{w32}
 use mir.Val.{Fits}
 use mathlib.Core.Path.{ap, _∙_}
 use mathlib.Core.List.{List}
-use lib.ListN.{getD}
-use Rattle.answer.specs.Reply.{Evaluable}
+use lib.ListN.{length, getD}
+use Rattle.answer.specs.Code.Reply.{Evaluable}
+use Rattle.answer.specs.Reply.{front}
 use Rattle.packed.specs.declared.Input.{Input}
 use Rattle.packed.proofs.Taking.{refused-list, evaluable, list-given}
 use Rattle.packed.proofs.find.Statement.{statement}
@@ -51,7 +52,7 @@ refused-listing-requires c κs = search needs
 returns : tie.Need-returns
 returns c =
     let a = c .before .before in let t = a .before .before in
-    ap (λ l. (l, out t)) (c .refused-listing .ensures) ∙ refused-list (bytes t) (t .take .result) (t .take .ensures) _ _ (a .answer .given .1) (out t)
+    ap (λ l. (l, out t)) (c .refused-listing .ensures) ∙ refused-list (bytes t) (t .take .result) (t .take .ensures) _ _ (a .answer .given .1) front (length (out t)) (out t)
 
 enum-told : tie.Need-enum-told
 enum-told c = search needs
@@ -72,7 +73,7 @@ returns-2 : tie.Need-returns-2
 returns-2 c =
     let f = c .before .before .before in let v = f .before .before in let e = v .before .before .before .before in let t = taken e in
     ap (λ l. (l, f .evaluate .last .1 .1 .1 .0)) (c .list .ensures)
-    ∙ list-given (bytes t) (input e) (t .take .ensures) (e .enum-told .given .1) (v .judged .result) (f .evaluate .result) (out t) (f .evaluate .last .1 .1 .1 .0) (v .judged .ensures) (f .evaluate .ensures)
+    ∙ list-given (bytes t) (input e) (t .take .ensures) (e .enum-told .given .1) front (length (out t)) (v .judged .result) (f .evaluate .result) (out t) (f .evaluate .last .1 .1 .1 .0) (v .judged .ensures) (f .evaluate .ensures)
 
 pub find-spec : {M : Type 1} → statement M
 find-spec =

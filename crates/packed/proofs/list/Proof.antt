@@ -1,7 +1,7 @@
 -- `packed::list` meets its contract: what was found decides.
 use borrow.Author.Needs.{needs}
 use mathlib.Core.Path.{sym, ap, _∙_}
-use Rattle.packed.specs.Packed.{listing-by}
+use Rattle.packed.specs.Code.Packed.{listing-by}
 use Rattle.packed.proofs.list.Statement.{statement}
 use Rattle.packed.proofs.list.Tie as tie
 

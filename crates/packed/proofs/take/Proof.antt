@@ -11,7 +11,8 @@ use lib.Seq.{take-all}
 use Rattle.calculus.specs.Lists.{tabulate}
 use Rattle.causes.specs.declared.Answer.the-variants.{Done}
 use Rattle.tables.specs.declared.Changed.{Changed}
-use Rattle.tables.specs.Fill.{beginning, collect-all, fill-reply}
+use Rattle.tables.specs.Code.Fill.{beginning, collect-all}
+use Rattle.tables.specs.Fill.{fill-reply}
 use Rattle.tables.specs.Fill.Laws.{fill-collects}
 use Rattle.query.specs.declared.Reading.{Reading}
 use Rattle.query.specs.Reading.{read-of}

@@ -7,7 +7,7 @@ use mathlib.Core.List.{List, [], _∷_, _++_}
 use lib.ListN.{length, getD}
 use lib.Dec.{T, leb}
 use Rattle.calculus.specs.Order.{insert}
-use Rattle.calculus.specs.Reflects.{reflects, confirmed-by, reflects-and, reflects-leb, reflects-T, reflects-true}
+use Rattle.calculus.specs.Reflects.Laws.{reflects, confirmed-by, reflects-and, reflects-leb, reflects-T, reflects-true}
 use Rattle.calculus.specs.Generators.{columns, verdict, safe}
 use Rattle.calculus.specs.Rows.{Result, endless, listed}
 use Rattle.causes.specs.declared.Answer.{Answer}
@@ -28,10 +28,12 @@ use Rattle.query.specs.Reading.{constants-of, nodes-of, read-checks, read-reply
 use Rattle.query.specs.Accepted.{Accepted}
 use Rattle.query.specs.Accepted.Laws.{read-few, read-cause, read-widths, read-columns, reading-accepted}
 use Rattle.verdict.specs.Verdict.{judged, refusal as verdict-refusal}
-use Rattle.answer.specs.Reply.{row-checks, found-reply, Evaluable, evaluated}
+use Rattle.answer.specs.Reply.{row-checks, Writing, reply-by}
+use Rattle.answer.specs.Code.Reply.{Evaluable, evaluated-by}
 use Rattle.packed.specs.declared.Input.{Input}
 use Rattle.packed.specs.declared.Listing.{Listing}
-use Rattle.packed.specs.Packed.{widths-in, count-in, records-in, query-in, is-whole, record-checks, input-checks, store-in, query-read, refusal, input-reply, input-of, judged-reply, judged-of, result-in, list-checks, declined, listing-with, listing-reply, listing-of}
+use Rattle.packed.specs.Packed.{widths-in, count-in, records-in, query-in, is-whole, record-checks, input-checks, store-in, query-read, judged-reply, judged-of, result-in, list-checks, declined, listing-reply, listing-in}
+use Rattle.packed.specs.Code.Packed.{refusal, input-reply, input-of, listing-with}
 
 -- ---- the parts
 
@@ -109,10 +111,10 @@ input-reply-answer Done bs = refl
 input-reply-answer (Refused n p) bs = refl
 
 -- The list's reply is what was found, with the verdict and the columns beside it.
-found-beside : (a : Answer) (q : Query) (found : Result) (buffer : List ℕ) → let f = found-reply a found buffer in listing-reply a q found buffer ≡ (listing-with (f .0) (safe (verdict (formula q))) (columns-of (columns (formula q))), f .1)
-found-beside Done q endless buffer = refl
-found-beside Done q (listed rows) buffer = refl
-found-beside (Refused n p) q found buffer = refl
+found-beside : (write : Writing (List ℕ)) (a : Answer) (q : Query) (found : Result) (buffer : List ℕ) → let f = reply-by write a found buffer in listing-reply write a q found buffer ≡ (listing-with (f .0) (safe (verdict (formula q))) (columns-of (columns (formula q))), f .1)
+found-beside write Done q endless buffer = refl
+found-beside write Done q (listed rows) buffer = refl
+found-beside write (Refused n p) q found buffer = refl
 
 module _ (bs : List ℕ) where
   pub input-answer : input-of bs .answer ≡ first-cause (input-checks bs)
@@ -122,8 +124,8 @@ module _ (bs : List ℕ) where
   judged-by : (a : Answer) → first-cause (input-checks bs) ≡ a → judged-of bs ≡ judged-reply a (query-read bs)
   judged-by a e = ap (λ b. judged-reply b (query-read bs)) e
 
-  pub listing-by-cause : (buffer : List ℕ) (a : Answer) → first-cause (list-checks bs (length buffer)) ≡ a → listing-of bs buffer ≡ listing-reply a (query-read bs) (result-in bs) buffer
-  listing-by-cause buffer a e = ap (λ b. listing-reply b (query-read bs) (result-in bs) buffer) e
+  pub listing-by-cause : (write : Writing (List ℕ)) (room : ℕ) (buffer : List ℕ) (a : Answer) → first-cause (list-checks bs room) ≡ a → listing-in write room bs buffer ≡ listing-reply write a (query-read bs) (result-in bs) buffer
+  listing-by-cause write room buffer a e = ap (λ b. listing-reply write b (query-read bs) (result-in bs) buffer) e
 
   -- No cause is met: the query is read, with few columns, and the records fill a store.
   module _ (c : first-cause (input-checks bs) ≡ Done) where
@@ -147,8 +149,8 @@ module _ (bs : List ℕ) where
     pub judged-refused : judged-of bs ≡ verdict-refusal n p
     judged-refused = judged-by (Refused n p) (sym input-answer ∙ e)
 
-    pub listing-refused : (buffer : List ℕ) → listing-of bs buffer ≡ (declined n p, buffer)
-    listing-refused buffer = listing-by-cause buffer (Refused n p) (then-refused (input-checks bs) (row-checks (store-in bs) (query-read bs) (length buffer)) n p (sym input-answer ∙ e))
+    pub listing-refused : (write : Writing (List ℕ)) (room : ℕ) (buffer : List ℕ) → listing-in write room bs buffer ≡ (declined n p, buffer)
+    listing-refused write room buffer = listing-by-cause write room buffer (Refused n p) (then-refused (input-checks bs) (row-checks (store-in bs) (query-read bs) room) n p (sym input-answer ∙ e))
 
   -- Or accepted: the query can be evaluated over the store, the constants being 32-bit numbers.
   module _ (e : input-of bs .answer ≡ Done) where
@@ -174,14 +176,14 @@ module _ (bs : List ℕ) where
     pub judged-done : judged-of bs ≡ judged (input-of bs .query)
     judged-done = judged-by Done unmet ∙ ap (λ i. judged (i .query)) (sym input-done)
 
-    pub listing-done : (buffer : List ℕ) → let i = input-of bs in let f = evaluated (i .store) (i .query) buffer in listing-of bs buffer ≡ (listing-with (f .0) (judged (i .query) .safe) (i .columns), f .1)
-    listing-done buffer =
-        listing-by-cause buffer (first-cause last) (then-done (input-checks bs) last unmet)
-        ∙ found-beside (first-cause last) (query-read bs) (result-in bs) buffer
+    pub listing-done : (write : Writing (List ℕ)) (room : ℕ) (buffer : List ℕ) → let i = input-of bs in let f = evaluated-by write (i .store) (i .query) room buffer in listing-in write room bs buffer ≡ (listing-with (f .0) (judged (i .query) .safe) (i .columns), f .1)
+    listing-done write room buffer =
+        listing-by-cause write room buffer (first-cause last) (then-done (input-checks bs) last unmet)
+        ∙ found-beside write (first-cause last) (query-read bs) (result-in bs) buffer
         ∙ ap evaluated-with (sym input-done)
       where
         last : List Check
-        last = row-checks (store-in bs) (query-read bs) (length buffer)
+        last = row-checks (store-in bs) (query-read bs) room
 
         evaluated-with : Input → Listing × List ℕ
-        evaluated-with i = let f = evaluated (i .store) (i .query) buffer in (listing-with (f .0) (judged (i .query) .safe) (i .columns), f .1)
+        evaluated-with i = let f = evaluated-by write (i .store) (i .query) room buffer in (listing-with (f .0) (judged (i .query) .safe) (i .columns), f .1)

@@ -11,7 +11,7 @@ use lib.ListN.{getD}
 use lib.Seq.{getD-drop}
 use Rattle.calculus.specs.Sets.{In, here, there}
 use Rattle.calculus.specs.Lists.Laws.{from-tabulate, from-take}
-use Rattle.calculus.specs.Reflects.{confirmed-by}
+use Rattle.calculus.specs.Reflects.Laws.{confirmed-by}
 use Rattle.calculus.specs.Satisfaction.{Fact, fact, Database, constant, known}
 use Rattle.calculus.specs.Satisfaction.Laws.{known-means}
 use Rattle.calculus.specs.Generators.{columns, verdict, safe}
@@ -27,8 +27,8 @@ use Rattle.tables.specs.Fill.Laws.{fill-facts}
 use Rattle.query.specs.declared.Query.{Query}
 use Rattle.query.specs.Reading.{constants-of, pool, formula}
 use Rattle.query.specs.Accepted.Laws.{read-pool, word-fits, constant-fits}
-use Rattle.answer.specs.Reply.Right.{EndlessOver, RightOver, KnownTo}
-use Rattle.packed.specs.Packed.{widths-in, count-in, record-at, records-in, query-in, store-in, query-read, result-in, input-checks}
+use Rattle.answer.specs.Reply.{EndlessOver, RightOver, KnownTo}
+use Rattle.packed.specs.Packed.{widths-in, count-in, record-at, records-in, query-in, store-in, query-read, result-in, input-checks, Listed}
 use Rattle.packed.specs.Packed.Laws.{query-accepted, records-filled}
 
 -- The values of a fact.
@@ -84,16 +84,13 @@ module _ (bs : List ℕ) where
 
   -- A query that is judged safe-range has its rows listed, and each value of each row is known.
   module _ (judged : safe (verdict (formula (query-read bs))) ≡ true) where
-    abbrev Listed : Result → Type 0
-    Listed a = (rows : List Row) × (a ≡ listed rows) × RightOver (store-in bs) (query-read bs) (listed rows) × ((w : Row) → In w rows → (v : ℕ) → In v w → KnownTo (store-in bs) (query-read bs) v)
-
-    pub safe-listed : Listed (result-in bs)
+    pub safe-listed : Listed bs (result-in bs)
     safe-listed = go (result-in bs) result-in-right
       where
         finite : ¬ EndlessOver (store-in bs) (query-read bs)
         finite = let q : Query = query-read bs in safe-not-endless (pool q) (facts (store-in bs)) (formula q) (confirmed-by judged (safe-reflects (formula q)))
 
-        go : (a : Result) → RightOver (store-in bs) (query-read bs) a → Listed a
+        go : (a : Result) → RightOver (store-in bs) (query-read bs) a → Listed bs a
         go endless r = absurd (finite r)
         go (listed rows) r =
             let q : Query = query-read bs in

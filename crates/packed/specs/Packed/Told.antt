@@ -2,7 +2,7 @@
 use Prim.Native.Nat.{ℕ, zero, suc, _+_, _*_, _≤_}
 use native.Mathlib.Nat.{mul-suc}
 use native.Mathlib.Omega.{arith}
-use mathlib.Core.Path.{_≡_, refl, sym, ap, _∙_}
+use mathlib.Core.Path.{_≡_, refl, sym, ap, subst, _∙_}
 use mathlib.Core.Bool.{true, false, true≢false}
 use mathlib.Core.List.{List, [], _∷_, _++_}
 use lib.ListN.{length, drop}
@@ -13,7 +13,7 @@ use Rattle.calculus.specs.Order.{Ascending}
 use Rattle.calculus.specs.Order.Laws.{ascending-at}
 use Rattle.calculus.specs.Generators.{columns, verdict, safe}
 use Rattle.calculus.specs.SafeRange.Result.{fv-columns}
-use Rattle.calculus.specs.Rows.{Row, row-below, Result, endless, listed, Right}
+use Rattle.calculus.specs.Rows.{Row, row-below, Result, endless, listed, Right, numbers, Width}
 use Rattle.calculus.specs.Evaluation.Laws.{result-right}
 use Rattle.causes.specs.declared.Answer.{Answer}
 use Rattle.causes.specs.declared.Answer.the-variants.{Done, Refused}
@@ -22,8 +22,7 @@ use Rattle.causes.specs.Causes.Laws.{first-done, later-done, first-clear}
 use Rattle.tables.specs.Store.{facts}
 use Rattle.query.specs.declared.Query.{Query}
 use Rattle.query.specs.Reading.{pool, columns-of, formula}
-use Rattle.answer.specs.Listing.{numbers, Width}
-use Rattle.answer.specs.Reply.{exceeds, row-checks, worked}
+use Rattle.answer.specs.Reply.{exceeds, row-checks, front, worked}
 use Rattle.packed.specs.declared.Listing.{Listing}
 use Rattle.packed.specs.Packed.{input-checks, store-in, query-read, result-in, list-checks, listing-reply, listing-of}
 use Rattle.packed.specs.Packed.Laws.{input-few, listing-by-cause}
@@ -57,9 +56,37 @@ few-rows zero n (v ∷ []) a w l = omega arith
 few-rows zero n (u ∷ v ∷ rows) a w l = absurd (empty-rows u v (w u (here refl)) (w v (there (here refl))) (ascending-at row-below [] a 0 1 (omega arith) (omega arith)))
 few-rows (suc k) n rows a w l = omega (arith, l, mul-suc (length rows) k)
 
+-- ---- an input that is accepted, with room for so many numbers
+
+module _ (bs : List ℕ) (room : ℕ) (done : first-cause (list-checks bs room) ≡ Done) where
+  -- Cause 18 comes after the input's.
+  abbrev last : List Check
+  last = row-checks (store-in bs) (query-read bs) room
+
+  pub few-columns : length (columns-in bs) ≤ 4
+  few-columns = input-few bs (first-done (input-checks bs) last done)
+
+  -- Its rows, if they are finitely many, fit, and so are few.
+  pub rows-fit : (rows : List Row) → result-in bs ≡ listed rows → Width (length (columns-in bs)) rows × (length rows * length (columns-in bs) ≤ room) × (length rows ≤ room + 1)
+  rows-fit rows e = (wide, fits, few-rows (length (columns-in bs)) room rows (right .0) wide fits)
+    where
+      q : Query
+      q = query-read bs
+
+      right : Right (pool q) (facts (store-in bs)) (formula q) (columns-in bs) (listed rows)
+      right = subst (Right (pool q) (facts (store-in bs)) (formula q) (columns-in bs)) e (result-right (pool q) (facts (store-in bs)) (formula q) (columns-in bs) (fv-columns (formula q)))
+
+      wide : Width (length (columns-in bs)) rows
+      wide w m = right .1 w .0 m .0
+
+      fits : length rows * length (columns-in bs) ≤ room
+      fits =
+          ltb-false room (length rows * length (columns-in bs))
+          (subst (λ r. exceeds room (length (columns-in bs)) r ≡ false) e (first-clear 18 (exceeds room (length (columns-in bs)) (result-in bs)) [] (later-done (input-checks bs) last done) .0))
+
 -- ---- the reply, by its answer
 
-reply-answer : (a : Answer) (q : Query) (found : Result) (buffer : List ℕ) → listing-reply a q found buffer .0 .answer ≡ a
+reply-answer : (a : Answer) (q : Query) (found : Result) (buffer : List ℕ) → listing-reply front a q found buffer .0 .answer ≡ a
 reply-answer Done q found buffer = refl
 reply-answer (Refused n p) q found buffer = refl
 
@@ -73,8 +100,8 @@ module _ (bs buffer : List ℕ) (l : Listing) (after : List ℕ) (e : (l, after)
   cause-is : (c : Answer) → l .answer ≡ c → first-cause (list-checks bs (length buffer)) ≡ c
   cause-is c a = sym (ap (λ r. r .0 .answer) e ∙ reply-answer (first-cause (list-checks bs (length buffer))) (query-read bs) (result-in bs) buffer) ∙ a
 
-  reply-is : (c : Answer) → l .answer ≡ c → (l, after) ≡ listing-reply c (query-read bs) (result-in bs) buffer
-  reply-is c a = e ∙ listing-by-cause bs buffer c (cause-is c a)
+  reply-is : (c : Answer) → l .answer ≡ c → (l, after) ≡ listing-reply front c (query-read bs) (result-in bs) buffer
+  reply-is c a = e ∙ listing-by-cause bs front (length buffer) buffer c (cause-is c a)
 
   pub told-refused : (n p : ℕ) → l .answer ≡ Refused n p → (first-cause (list-checks bs (length buffer)) ≡ Refused n p) × (after ≡ buffer)
   told-refused n p a = (cause-is (Refused n p) a, ap (λ r. r .1) (reply-is (Refused n p) a))
@@ -89,36 +116,25 @@ module _ (bs buffer : List ℕ) (l : Listing) (after : List ℕ) (e : (l, after)
     pub told-columns : l .columns ≡ columns-of (columns-in bs)
     told-columns = ap (λ r. r .0 .columns) (reply-is Done a)
 
-    -- Cause 18 comes after the input's.
-    abbrev last : List Check
-    last = row-checks (store-in bs) (query-read bs) (length buffer)
-
     pub told-few-columns : length (columns-in bs) ≤ 4
-    told-few-columns = input-few bs (first-done (input-checks bs) last told-done)
+    told-few-columns = few-columns bs (length buffer) told-done
 
     pub told-endless : l .endless ≡ true → (result-in bs ≡ endless) × (after ≡ buffer)
     told-endless t = let w = worked-endless (result-in bs) buffer (sym (ap (λ r. r .0 .endless) (reply-is Done a)) ∙ t) in (w .0, ap (λ r. r .1) (reply-is Done a) ∙ w .1)
 
     pub told-rows : l .endless ≡ false → Told bs buffer l after
-    told-rows t = go (result-in bs) refl (result-right (pool q) (facts (store-in bs)) (formula q) (columns-in bs) (fv-columns (formula q))) room (reply-is Done a)
+    told-rows t = go (result-in bs) refl (reply-is Done a)
       where
-        q : Query
-        q = query-read bs
-
-        room : exceeds (length buffer) (length (columns-in bs)) (result-in bs) ≡ false
-        room = first-clear 18 (exceeds (length buffer) (length (columns-in bs)) (result-in bs)) [] (later-done (input-checks bs) last told-done) .0
-
-        go : (found : Result) → result-in bs ≡ found → Right (pool q) (facts (store-in bs)) (formula q) (columns-in bs) found → exceeds (length buffer) (length (columns-in bs)) found ≡ false → (l, after) ≡ listing-reply Done q found buffer → Told bs buffer l after
-        go endless i r x h = absurd (true≢false (sym (ap (λ v. v .0 .endless) h) ∙ t))
-        go (listed rows) i r x h =
-            let wide : Width (length (columns-in bs)) rows = λ w m. r .1 w .0 m .0 in
-            let fits : length rows * length (columns-in bs) ≤ length buffer = ltb-false (length buffer) (length rows * length (columns-in bs)) x in
+        go : (found : Result) → result-in bs ≡ found → (l, after) ≡ listing-reply front Done (query-read bs) found buffer → Told bs buffer l after
+        go endless i h = absurd (true≢false (sym (ap (λ v. v .0 .endless) h) ∙ t))
+        go (listed rows) i h =
+            let r = rows-fit bs (length buffer) told-done rows i in
             record {
               rows = rows;
               answered = i;
               counted = ap (λ v. v .0 .rows) h;
               written = ap (λ v. v .1) h;
-              wide = wide;
-              fitting = fits;
-              few = few-rows (length (columns-in bs)) (length buffer) rows (r .0) wide fits;
+              wide = r .0;
+              fitting = r .1;
+              few = r .2;
             }

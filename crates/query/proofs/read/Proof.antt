@@ -15,7 +15,7 @@ use Rattle.causes.specs.Causes.{Check, first-cause}
 use Rattle.query.specs.declared.Columns.{Columns}
 use Rattle.query.specs.declared.Reading.{Reading}
 use Rattle.query.specs.Decoding.{root}
-use Rattle.query.specs.Free.{columns-found}
+use Rattle.query.specs.Code.Free.{columns-found}
 use Rattle.query.specs.Reading.{word-at, count-of-nodes, count-of-constants, constants-of, nodes-of, header-checks, tree-checks, columns-of, accepted}
 use Rattle.query.specs.Reading.Laws.{Headed, header-done, refused-header, refused-tree, refused-columns, reply-accepted, Fitting, fitting, nodes-read, nodes-padded, constants-padded}
 use Rattle.query.proofs.read.Statement.{statement}

@@ -4,21 +4,22 @@ use native.Mathlib.Omega.{arith}
 use mathlib.Core.Path.{_≡_, refl, sym, ap, subst, subst⁻¹, _∙_}
 use mathlib.Core.Bool.{Bool, true, false, true≢false, not, _&&_, cond}
 use mathlib.Core.List.{List, [], _∷_, _++_, map}
-use lib.ListN.{length, getD, take, length-map, length-take, List·getD-append, replicate}
+use lib.ListN.{length, getD, take, length-map, length-take, List·getD-append, replicate, length-replicate}
 use lib.Seq.{length-take-le, take-append-seam}
 use lib.Dec.{T, leb, ltb, eqb}
 use borrow.Author.Tests.{leb-false, ltb-false, eqb-false}
 use Rattle.calculus.specs.Sets.{In, here, there, any-of}
 use Rattle.calculus.specs.Sets.Laws.{from-map}
-use Rattle.calculus.specs.Lists.Laws.{length-tabulate, length-padded, getD-padded, place-of, or-fails, any-of-false, from-tabulate}
-use Rattle.calculus.specs.Reflects.{Reflects, holds, fails, reflects-T, reflects-false, reflects-eqb}
+use Rattle.calculus.specs.Lists.Laws.{length-tabulate, length-padded, getD-padded, place-of, or-fails, any-of-false, from-tabulate, from-replicate}
+use Rattle.calculus.specs.Reflects.{Reflects, holds, fails}
+use Rattle.calculus.specs.Reflects.Laws.{reflects-T, reflects-false, reflects-eqb}
 use Rattle.calculus.specs.Formula.{Term, var, con, Fmla, rel, size}
 use Rattle.calculus.specs.Satisfaction.{Pool}
 use Rattle.calculus.specs.Generators.{columns}
 use Rattle.causes.specs.declared.Answer.{Answer}
 use Rattle.causes.specs.declared.Answer.the-variants.{Done, Refused}
-use Rattle.causes.specs.Causes.{first-cause, widths-fit}
-use Rattle.causes.specs.Causes.Laws.{width-fits, first-done, AllClear, first-cause-done, when-clear, lowest-clear}
+use Rattle.causes.specs.Causes.{first-cause, widths-fit, AllClear}
+use Rattle.causes.specs.Causes.Laws.{width-fits, first-done, first-cause-done, when-clear, lowest-clear}
 use Rattle.query.specs.declared.Query.{Query}
 use Rattle.query.specs.Nodes.{relation, term-count, terms, variable, equal-term, left, right, under, children, uses, malformed, misplaced, is-stray, strays, mismatched}
 use Rattle.query.specs.Decoding.{term-of, node-formula, formula-at, root}
@@ -215,31 +216,43 @@ constants-length bs = length-tabulate (λ i. word-at bs (2 + 4 * i)) (count-of-c
 pub nodes-length : (bs : List ℕ) → length (nodes-of bs) ≡ count-of-nodes bs
 nodes-length bs = length-tabulate (λ i. word-at bs (2 + 4 * count-of-constants bs + 4 * i)) (count-of-nodes bs)
 
--- The constants are 32-bit numbers.
-module _ (ws bs : List ℕ) (small : (v : ℕ) → In v (constants-of bs) → v < 2 ^ 32) (h : read-of ws bs .answer ≡ Done) where
-  pub read-checked : Checked ws (constants-of bs) (nodes-of bs)
-  read-checked = record {
+module _ (ws bs : List ℕ) (h : read-of ws bs .answer ≡ Done) where
+  -- What the checks leave of the nodes, with as many constants, which are 32-bit numbers.
+  checked-with : (cs : List ℕ) → length cs ≡ count-of-constants bs → ((v : ℕ) → In v cs → v < 2 ^ 32) → Checked ws cs (nodes-of bs)
+  checked-with cs long small = record {
     widths = read-widths ws bs h;
     some-node = rw nodes-length (read-headed ws bs h .some-nodes);
     few-nodes = rw nodes-length (read-headed ws bs h .few-nodes);
-    few-constants = rw constants-length (read-headed ws bs h .few-constants);
+    few-constants = subst⁻¹ (λ k. k ≤ max-constants) long (read-headed ws bs h .few-constants);
     formed = lowest-clear (λ i. malformed (getD (nodes-of bs) i 0)) (length (nodes-of bs)) (tree-clear ws bs h .0);
     placed = lowest-clear (misplaced (nodes-of bs)) (length (nodes-of bs)) (tree-clear ws bs h .1 .0);
-    constants-held = (λ i l. subst⁻¹ (λ k. strays k (getD (nodes-of bs) i 0) ≡ false) (constants-length bs) (lowest-clear (λ j. strays (count-of-constants bs) (getD (nodes-of bs) j 0)) (length (nodes-of bs)) (tree-clear ws bs h .1 .1 .0) i l));
+    constants-held = (λ i l. subst⁻¹ (λ k. strays k (getD (nodes-of bs) i 0) ≡ false) long (lowest-clear (λ j. strays (count-of-constants bs) (getD (nodes-of bs) j 0)) (length (nodes-of bs)) (tree-clear ws bs h .1 .1 .0) i l));
     relations-held = lowest-clear (λ i. mismatched ws (getD (nodes-of bs) i 0)) (length (nodes-of bs)) (tree-clear ws bs h .1 .1 .1 .0);
     few-columns = few-free ws bs h;
     constants-fit = small;
   }
 
-  small-accepted : Accepted ws (read-of ws bs .query)
-  small-accepted = subst⁻¹ (λ r. Accepted ws (r .query)) (read-done ws bs h) (checked-accepted ws (constants-of bs) (nodes-of bs) read-checked)
+  -- Whatever the constants are, the formula has at most 64 nodes.
+  pub read-size : size (formula (read-of ws bs .query)) ≤ max-nodes
+  read-size =
+      let k : ℕ = count-of-constants bs in
+      let c = checked-with (replicate k 0) (length-replicate {A = ℕ} k 0) (λ v i. subst⁻¹ (λ u. u < 2 ^ 32) (from-replicate k 0 i) (omega arith)) in
+      subst⁻¹ (λ φ. size φ ≤ max-nodes) (read-formula ws bs h) (omega (arith, size-right ws (replicate k 0) (nodes-of bs) c, c .few-nodes))
+
+  -- Where they are 32-bit numbers the query is an accepted one.
+  module _ (small : (v : ℕ) → In v (constants-of bs) → v < 2 ^ 32) where
+    pub read-checked : Checked ws (constants-of bs) (nodes-of bs)
+    read-checked = checked-with (constants-of bs) (constants-length bs) small
+
+    small-accepted : Accepted ws (read-of ws bs .query)
+    small-accepted = subst⁻¹ (λ r. Accepted ws (r .query)) (read-done ws bs h) (checked-accepted ws (constants-of bs) (nodes-of bs) read-checked)
 
 -- So they are where the bytes are bytes, and where the reader's array of them is one of 32-bit numbers, as a caller sees it.
 pub read-accepted : (ws bs : List ℕ) → ((i : ℕ) → getD bs i 0 < 256) → read-of ws bs .answer ≡ Done → Accepted ws (read-of ws bs .query)
-read-accepted ws bs b h = small-accepted ws bs (constant-fits bs b) h
+read-accepted ws bs b h = small-accepted ws bs h (constant-fits bs b)
 
 pub reading-accepted : (ws bs : List ℕ) → ((i : ℕ) → getD (read-of ws bs .query .constants) i 0 < 2 ^ 32) → read-of ws bs .answer ≡ Done → Accepted ws (read-of ws bs .query)
-reading-accepted ws bs f h = small-accepted ws bs held h
+reading-accepted ws bs f h = small-accepted ws bs h held
   where
     held : (v : ℕ) → In v (constants-of bs) → v < 2 ^ 32
     held v i =

@@ -12,17 +12,17 @@ use lib.Dec.{T, eqb}
 use borrow.Author.Tests.{le-leb, lt-leb}
 use Rattle.calculus.specs.Sets.{any-of}
 use Rattle.calculus.specs.Lists.Laws.{or-fails}
-use Rattle.calculus.specs.Reflects.{reflects-eqb}
+use Rattle.calculus.specs.Reflects.Laws.{reflects-eqb}
 use Rattle.calculus.specs.Formula.{Term, Fmla, size}
 use Rattle.causes.specs.declared.Answer.the-variants.{Done}
 use Rattle.causes.specs.Causes.{widths-fit}
 use Rattle.causes.specs.Causes.Laws.{width-fits}
 use Rattle.query.specs.Nodes.{kind, truth-bit, relation, term-count, terms, variable, equal-term, left, right, under, nonzero, malformed, mismatched}
 use Rattle.query.specs.Decoding.{term-of, root}
-use Rattle.query.specs.Reading.{constants-of, nodes-of, read-of, pool, formula}
+use Rattle.query.specs.Reading.{constants-of, nodes-of, read-of, pool, formula, Bytes}
 use Rattle.query.specs.Packing.{term-code, terms-code, words, packed-bytes, pack, InOrder}
 use Rattle.query.specs.Packing.Numbering.{Kept, whole-kept}
-use Rattle.query.specs.Packing.Bytes.{Bytes, bytes-at, packed-again}
+use Rattle.query.specs.Packing.Bytes.{bytes-at, packed-again}
 use Rattle.query.specs.Packing.Laws.{length-words, Placed}
 use Rattle.query.specs.Accepted.Laws.{confirmed, Checked, size-right, read-pool, read-formula, read-headed, constant-fits, read-checked}
 
@@ -153,5 +153,5 @@ module _ (ws cs ns : List ℕ) (checked : Checked ws cs ns) (order : InOrder ns)
 pub pack-read : (ws bs : List ℕ) → Bytes bs → InOrder (nodes-of bs) → read-of ws bs .answer ≡ Done → pack (pool (read-of ws bs .query)) (formula (read-of ws bs .query)) ≡ bs
 pack-read ws bs bytes order done =
     (λ i. pack (read-pool ws bs done i) (read-formula ws bs done i))
-    ∙ ap (packed-bytes (constants-of bs)) (words-again ws (constants-of bs) (nodes-of bs) (read-checked ws bs (constant-fits bs (bytes-at bs bytes)) done) order)
+    ∙ ap (packed-bytes (constants-of bs)) (words-again ws (constants-of bs) (nodes-of bs) (read-checked ws bs done (constant-fits bs (bytes-at bs bytes))) order)
     ∙ packed-again bs bytes (read-headed ws bs done .first) (read-headed ws bs done .whole)

@@ -8,7 +8,8 @@ use mathlib.Core.List.{List, [], _∷_, _++_}
 use lib.ListN.{length, getD, take, length-append}
 use lib.Seq.{getD-at, getD-take, length-take-le}
 use Rattle.calculus.specs.Formula.{Fmla, truth, neg, conj, disj, exists}
-use Rattle.calculus.specs.Reflects.{Reflects, holds, fails, reflects-ltb}
+use Rattle.calculus.specs.Reflects.{Reflects, holds, fails}
+use Rattle.calculus.specs.Reflects.Laws.{reflects-ltb}
 use Rattle.calculus.specs.Sets.{In, here, there}
 use Rattle.query.specs.Decoding.{node-formula, formula-in, formulas, formula-at, root}
 use Rattle.query.specs.Nodes.{kind, variable, left, right, under, children}

@@ -15,7 +15,8 @@ use borrow.Author.Tests.{eq-eqb, ne-eqb}
 use Rattle.calculus.specs.Sets.{In, here, there, union-of}
 use Rattle.calculus.specs.Lists.{tabulate}
 use Rattle.calculus.specs.Lists.Laws.{length-tabulate, getD-tabulate, tabulate-of}
-use Rattle.query.specs.Nodes.{kind, by-kind, nonzero, malformed, left, right, under, children, term-count, terms, equal-term, used-terms, occurrences, uses, counted-with}
+use Rattle.query.specs.Nodes.{kind, by-kind, nonzero, malformed, left, right, under, children, term-count, terms, equal-term, used-terms, occurrences, uses}
+use Rattle.query.specs.Code.Judging.{counted-with}
 
 -- ---- the children, by kind
 

@@ -9,13 +9,13 @@ use lib.ListN.{length, getD, length-append}
 use lib.Seq.{getD-append-add}
 use lib.Dec.{T}
 use borrow.Author.Tests.{eq-eqb, lt-leb, ne-eqb}
-use Rattle.calculus.specs.Reflects.{reflects-T, reflects-true}
+use Rattle.calculus.specs.Reflects.Laws.{reflects-T, reflects-true}
 use Rattle.calculus.specs.Sets.{In, here, there, union-of}
 use Rattle.calculus.specs.Sets.Laws.{in-one, in-append, from-union, union-append}
 use Rattle.calculus.specs.Lists.{tabulate}
 use Rattle.calculus.specs.Lists.Laws.{length-tabulate, tabulate-of, tabulate-same, tabulate-append}
 use Rattle.causes.specs.Causes.{Check, first-cause, widths-fit}
-use Rattle.query.specs.Reading.{version, count-of-nodes, count-of-constants, word-at, constants-of, nodes-of, header-checks}
+use Rattle.query.specs.Reading.{version, count-of-nodes, count-of-constants, word-at, constants-of, nodes-of, header-checks, Bytes}
 use Rattle.query.specs.Packing.{word-bytes, header-bytes, packed-bytes}
 
 -- ---- lists
@@ -126,9 +126,6 @@ packed-small cs ns hn hk fc fn b i =
     (in-append (header-bytes (length ns) (length cs)) i)
 
 -- ---- the packing of what was read
-
-abbrev pub Bytes : List ℕ → Type 0
-Bytes bs = (b : ℕ) → In b bs → b < 256
 
 pub bytes-at : (bs : List ℕ) → Bytes bs → (i : ℕ) → getD bs i 0 < 256
 bytes-at [] h i = omega arith

@@ -18,8 +18,7 @@ use Rattle.causes.specs.Causes.{first-cause, widths-fit}
 use Rattle.causes.specs.declared.Answer.the-variants.{Done}
 use Rattle.causes.specs.Causes.Laws.{width-fits}
 use Rattle.query.specs.Decoding.{root}
-use Rattle.query.specs.Reading.{read-checks, read-reply, read-of, accepted, nodes-of, count-of-constants, tree-checks, column-checks, columns-of, formula, max-nodes, max-constants}
-use Rattle.query.specs.Reading.{pool as pool-of}
+use Rattle.query.specs.Reading.{read-checks, read-reply, read-of, accepted, nodes-of, count-of-constants, tree-checks, column-checks, columns-of, formula, max-nodes, max-constants, pool as pool-of}
 use Rattle.query.specs.Packing.{term-code, terms-code, words, pack, Fits, truth-fits, rel-fits, eq-fits, neg-fits, conj-fits, disj-fits, exists-fits, Packable, InOrder}
 use Rattle.query.specs.Packing.Fields.{Built, truth-built, not-built, and-built, or-built, exists-built, equality-built, record-built, formed-small}
 use Rattle.query.specs.Packing.Bytes.{constants-counted, constants-packed, nodes-packed, header-packed, packed-small}

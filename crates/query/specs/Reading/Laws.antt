@@ -17,7 +17,8 @@ use Rattle.causes.specs.declared.Answer.the-variants.{Done, Refused}
 use Rattle.causes.specs.Causes.{Finding, clear, met, Check, check, first-cause, lowest, when, widths-fit}
 use Rattle.causes.specs.Causes.Laws.{then-done, then-refused, first-clear}
 use Rattle.query.specs.Decoding.{root}
-use Rattle.query.specs.Reading.{max-nodes, max-constants, version, count-of-nodes, count-of-constants, word-at, constants-of, nodes-of, header-checks, tree-checks, column-checks, read-checks, refusal, accepted, read-reply, read-of, node-fault, found-at}
+use Rattle.query.specs.Reading.{max-nodes, max-constants, version, count-of-nodes, count-of-constants, word-at, constants-of, nodes-of, header-checks, tree-checks, column-checks, read-checks, refusal, accepted, read-reply, read-of}
+use Rattle.query.specs.Code.Judging.{node-fault, found-at}
 
 -- ---- the header
 

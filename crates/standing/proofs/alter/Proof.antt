@@ -2,7 +2,7 @@
 use borrow.Author.Needs.{needs}
 use mathlib.Core.Path.{ap, sym, _∙_}
 use Rattle.standing.specs.Checks.{kind-of}
-use Rattle.standing.specs.Change.{altered}
+use Rattle.standing.specs.Code.Change.{altered}
 use Rattle.standing.proofs.alter.Statement.{statement}
 use Rattle.standing.proofs.alter.Tie as tie
 

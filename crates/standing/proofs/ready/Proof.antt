@@ -6,12 +6,11 @@ use mathlib.Core.List.{List}
 use Rattle.calculus.specs.Generators.{columns}
 use Rattle.causes.specs.declared.Answer.the-variants.{Done}
 use Rattle.tables.specs.declared.Store.{Store}
-use Rattle.query.specs.Reading.{formula}
-use Rattle.verdict.specs.Generating.{variables-in}
+use Rattle.query.specs.Reading.{formula, variables-in}
 use Rattle.answer.specs.Reply.{query-read}
 use Rattle.standing.specs.View.{QueryColumns, suits}
 use Rattle.standing.specs.View.Layout.{query-columns}
-use Rattle.standing.specs.Change.{begun}
+use Rattle.standing.specs.Code.Change.{begun}
 use Rattle.standing.specs.Change.Laws.{begun-few, begun-columns, begun-variables, answered, readied-refused, readied-suited, readied-unsuited}
 use Rattle.standing.proofs.ready.Statement.{statement}
 use Rattle.standing.proofs.ready.Tie as tie

@@ -2,7 +2,7 @@
 -- The causes stand in the order of their numbers, so the first part that meets one decides.
 use Prim.Native.Nat.{ℕ, _+_, _≤_}
 use native.Mathlib.Omega.{arith}
-use mathlib.Core.Path.{_≡_, refl, ap, subst, subst⁻¹, _∙_}
+use mathlib.Core.Path.{_≡_, refl, sym, ap, subst, subst⁻¹, _∙_}
 use mathlib.Core.List.{List, [], _∷_, _++_}
 use lib.ListN.{length}
 use lib.Dec.{T}
@@ -11,8 +11,8 @@ use Rattle.calculus.specs.Generators.{columns}
 use Rattle.calculus.specs.Rows.{Result}
 use Rattle.causes.specs.declared.Answer.{Answer}
 use Rattle.causes.specs.declared.Answer.the-variants.{Done, Refused}
-use Rattle.causes.specs.Causes.{Check, first-cause, is-done}
-use Rattle.causes.specs.Causes.Laws.{then-done, then-refused, first-done, later-done, first-passed}
+use Rattle.causes.specs.Causes.{Check, first-cause, is-done, number, numbered}
+use Rattle.causes.specs.Causes.Laws.{then-done, then-refused, first-done, later-done, first-passed, numbered-done}
 use Rattle.tables.specs.declared.Record.{Record}
 use Rattle.tables.specs.declared.Store.{Store}
 use Rattle.tables.specs.Store.{held}
@@ -23,9 +23,10 @@ use Rattle.standing.specs.declared.Change.{Change}
 use Rattle.standing.specs.View.{rows-in, kept, suits}
 use Rattle.standing.specs.View.Difference.{only-in-fewer}
 use Rattle.standing.specs.View.Layout.{suited}
-use Rattle.standing.specs.Checks.{Kind, view-checks, record-checks, is-over}
+use Rattle.standing.specs.Checks.{Kind, put, removal, view-checks, record-checks, is-over}
 use Rattle.standing.specs.Change.Turn.{report-clear}
-use Rattle.standing.specs.Change.{joining, leaving, begin-checks, refusal, turn-checks, turn-reply, store-after, ready-checks, change-of, settled}
+use Rattle.standing.specs.Change.{joining, leaving, begin-checks, refusal, turn-checks, turn-reply, store-after, ready-checks, change-of}
+use Rattle.standing.specs.Code.Change.{settled}
 
 -- At most 512 rows joined, and at most 512 left.
 abbrev pub FewTold : Change × (List ℕ × List ℕ) → Type 0
@@ -39,10 +40,20 @@ reply-grown : (a : Answer) (s t : Store) (v : View) (cols : List ℕ) (found : R
 reply-grown Done s t v cols found first second = (refl, refl, refl)
 reply-grown (Refused n p) s t v cols found first second = (refl, omega arith, omega arith)
 
--- A reply tells the answer that it was made for; so a refusal, whatever its cause, leaves the store, the list and both buffers.
+-- A reply tells the answer that it was made for.
+answer-told : (a : Answer) (s t : Store) (v : View) (cols : List ℕ) (found : Result) (first second : List ℕ) → turn-reply a s t v cols found first second .0 .answer ≡ a
+answer-told Done s t v cols found first second = refl
+answer-told (Refused n p) s t v cols found first second = refl
+
+-- So a refusal, whatever its cause, leaves the store, the list and both buffers.
 refusal-told : (a : Answer) (s t : Store) (v : View) (cols : List ℕ) (found : Result) (first second : List ℕ) (n p : ℕ) → turn-reply a s t v cols found first second .0 .answer ≡ Refused n p → turn-reply a s t v cols found first second ≡ (refusal n p s v, (first, second))
 refusal-told Done s t v cols found first second n p e = absurd (subst (λ a. T (is-done a)) e tt)
 refusal-told (Refused m o) s t v cols found first second n p e = ap (λ a. turn-reply a s t v cols found first second) e
+
+-- No check of a put or removal has the number 0.
+all-numbered : (kind : Kind) (s : Store) (v : View) (bs : List ℕ) (r : Record) (cols : List ℕ) (found : Result) (a b : ℕ) → T (numbered (ready-checks s v bs ++ (record-checks kind (s .widths) (held s) r ++ turn-checks v cols found a b)))
+all-numbered put s v bs r cols found a b = tt
+all-numbered removal s v bs r cols found a b = tt
 
 module _ (kind : Kind) (s : Store) (v : View) (bs : List ℕ) (r : Record) (first second : List ℕ) where
   -- The causes 13 to 16, and 17 to 19.
@@ -63,6 +74,14 @@ module _ (kind : Kind) (s : Store) (v : View) (bs : List ℕ) (r : Record) (firs
   pub change-grown : Grown v (change-of kind s v bs r first second)
   change-grown =
       reply-grown (first-cause (ready-checks s v bs ++ (record-causes ++ turn-causes))) s (store-after kind s r) v (columns (formula (query-read s bs))) (result-of (store-after kind s r) (query-read s bs)) first second
+
+  -- The number 0 means that the call was worked on.
+  pub change-worked : number (change-of kind s v bs r first second .0 .answer) ≡ 0 → change-of kind s v bs r first second .0 .answer ≡ Done
+  change-worked e =
+      let cols : List ℕ = columns (formula (query-read s bs)) in
+      let found : Result = result-of (store-after kind s r) (query-read s bs) in
+      let told = answer-told (first-cause (ready-checks s v bs ++ (record-causes ++ turn-causes))) s (store-after kind s r) v cols found first second in
+      told ∙ numbered-done (ready-checks s v bs ++ (record-causes ++ turn-causes)) (all-numbered kind s v bs r cols found (length first) (length second)) (sym (ap number told) ∙ e)
 
   -- One of the causes 1 to 10 or 12 is met.
   pub change-unready : (n p : ℕ) → first-cause (ready-checks s v bs) ≡ Refused n p → change-of kind s v bs r first second ≡ (refusal n p s v, (first, second))

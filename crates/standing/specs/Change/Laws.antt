@@ -15,15 +15,16 @@ use Rattle.tables.specs.declared.Store.{Store}
 use Rattle.tables.specs.Store.{store-checks, judgement}
 use Rattle.tables.specs.Store.Laws.{judged-layout}
 use Rattle.query.specs.declared.Reading.{Reading}
-use Rattle.query.specs.Reading.{max-columns, constants-of, nodes-of, read-checks, read-reply, formula, columns-of, read-of}
+use Rattle.query.specs.Reading.{max-columns, constants-of, nodes-of, read-checks, read-reply, formula, columns-of, read-of, variables-in}
 use Rattle.query.specs.Accepted.{Accepted}
 use Rattle.query.specs.Accepted.Laws.{read-cause, read-few, read-columns, reading-accepted}
-use Rattle.verdict.specs.Generating.{variables-in}
-use Rattle.answer.specs.Reply.{result-of, query-read, Evaluable}
+use Rattle.answer.specs.Reply.{result-of, query-read}
+use Rattle.answer.specs.Code.Reply.{Evaluable}
 use Rattle.standing.specs.declared.View.{View}
 use Rattle.standing.specs.View.{suits}
 use Rattle.standing.specs.Checks.{view-checks}
-use Rattle.standing.specs.Change.{begin-checks, over-checks, refused-opening, opening-reply, opened-of, ready-checks, current, begun, readied}
+use Rattle.standing.specs.Change.{begin-checks, over-checks, refused-opening, opening-reply, opened-of, ready-checks}
+use Rattle.standing.specs.Code.Change.{current, begun, readied}
 use Rattle.standing.specs.Change.Turn.{too-many, all-kept, over-is}
 
 -- ---- causes 1 to 10 are not met

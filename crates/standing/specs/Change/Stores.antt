@@ -4,7 +4,7 @@ use mathlib.Core.Path.{_≡_, sym, ap, subst, _∙_}
 use mathlib.Core.Bool.{not}
 use mathlib.Core.List.{List, [], _∷_, _++_}
 use lib.Dec.{T, leb}
-use Rattle.calculus.specs.Reflects.{reflected, reflects-T, reflects-true}
+use Rattle.calculus.specs.Reflects.Laws.{reflected, reflects-T, reflects-true}
 use Rattle.causes.specs.declared.Answer.the-variants.{Done}
 use Rattle.causes.specs.Causes.{Check, check, first-cause, when, widths-fit}
 use Rattle.causes.specs.Causes.Laws.{then-done}
@@ -12,12 +12,13 @@ use Rattle.tables.specs.declared.Record.{Record}
 use Rattle.tables.specs.declared.Store.{Store}
 use Rattle.tables.specs.declared.Changed.{Changed}
 use Rattle.tables.specs.Records.{fits}
-use Rattle.tables.specs.Store.{capacity, held, store-checks, judgement}
-use Rattle.tables.specs.Store.Laws.{Layout, reflects-layout, length-held, judged-layout}
+use Rattle.tables.specs.Store.{capacity, held, store-checks, judgement, Layout}
+use Rattle.tables.specs.Store.Laws.{reflects-layout, length-held, judged-layout}
 use Rattle.tables.specs.Change.{is-held, reply, put-reply, removal-reply}
 use Rattle.tables.specs.Change.Laws.{put-checks, insertion-put, deletion-removal, put-layout, put-held, removal-layout, removal-held}
 use Rattle.standing.specs.Checks.{Kind, put, removal, record-checks, records-after}
-use Rattle.standing.specs.Change.{store-after, altered}
+use Rattle.standing.specs.Change.{store-after}
+use Rattle.standing.specs.Code.Change.{altered}
 
 -- A store in the layout is judged so.
 well-judged : (s : Store) → T (widths-fit (s .widths)) → Layout s → judgement s ≡ Done

@@ -14,7 +14,7 @@ use Rattle.calculus.specs.Lists.Laws.{or-fails}
 use Rattle.calculus.specs.Order.{Ascending, nothing}
 use Rattle.calculus.specs.Generators.{columns}
 use Rattle.calculus.specs.SafeRange.Result.{fv-columns}
-use Rattle.calculus.specs.Rows.{row-below, Result, endless, listed, Right}
+use Rattle.calculus.specs.Rows.{row-below, Result, endless, listed, Right, Width}
 use Rattle.calculus.specs.Evaluation.Laws.{result-right}
 use Rattle.causes.specs.declared.Answer.{Answer}
 use Rattle.causes.specs.declared.Answer.the-variants.{Done, Refused}
@@ -25,13 +25,13 @@ use Rattle.tables.specs.Store.{facts}
 use Rattle.query.specs.declared.Query.{Query}
 use Rattle.query.specs.Reading.{pool, formula}
 use Rattle.answer.specs.Reply.{result-of}
-use Rattle.answer.specs.Listing.{Width}
 use Rattle.standing.specs.declared.View.{View}
 use Rattle.standing.specs.declared.Current.{Current}
 use Rattle.standing.specs.declared.Change.{Change}
 use Rattle.standing.specs.View.{stored, kept, mark}
 use Rattle.standing.specs.Checks.{is-over, is-past, report-checks}
-use Rattle.standing.specs.Change.{joining, leaving, turn-reply, refusal, current, settled}
+use Rattle.standing.specs.Change.{joining, leaving, turn-reply, refusal}
+use Rattle.standing.specs.Code.Change.{current, settled}
 
 -- ---- what a query answers
 

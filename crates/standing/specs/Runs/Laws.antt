@@ -1,8 +1,8 @@
--- Demand 3: every run is the ledger's. And what follows: after a run the list is endless exactly when infinitely many rows satisfy the query over the records
--- then held, else it holds all such rows and no other; each change reports exactly the rows that joined and left; and the counts add up.
+-- Demand 3: every run is the ledger's, and every run has one. And what follows: after a run the list is endless exactly when infinitely many rows satisfy the
+-- query over the records then held, else it holds all such rows and no other; each change reports exactly the rows that joined and left; and the counts add up.
 use Prim.Native.Nat.{ℕ, _+_}
 use native.Mathlib.Omega.{arith}
-use mathlib.Core.Path.{_≡_, refl, sym, ap, subst⁻¹, _∙_}
+use mathlib.Core.Path.{_≡_, refl, sym, ap, subst⁻¹, subst₂, _∙_}
 use mathlib.Core.Logic.{_↔_}
 use mathlib.Core.Bool.{true}
 use mathlib.Core.List.{List, []}
@@ -12,24 +12,23 @@ use Rattle.calculus.specs.Sets.{In}
 use Rattle.calculus.specs.Reflects.{Reflects, holds, fails}
 use Rattle.calculus.specs.Order.{Ascending}
 use Rattle.calculus.specs.Generators.{columns}
-use Rattle.calculus.specs.Rows.{Row, row-below, Result, endless, listed, only-in}
-use Rattle.calculus.specs.Rows.Laws.{in-only-in, only-in-ascending}
+use Rattle.calculus.specs.Rows.{Row, row-below, Result, endless, listed}
 use Rattle.calculus.specs.Evaluation.Laws.{not-endless}
 use Rattle.causes.specs.declared.Answer.the-variants.{Done}
+use Rattle.causes.specs.Causes.{number}
 use Rattle.tables.specs.declared.Store.{Store}
 use Rattle.tables.specs.Store.{facts, held}
 use Rattle.query.specs.declared.Query.{Query}
 use Rattle.query.specs.Reading.{pool, formula}
-use Rattle.answer.specs.Reply.{result-of, query-read}
-use Rattle.answer.specs.Reply.Right.{EndlessOver, RightOver}
+use Rattle.answer.specs.Reply.{result-of, query-read, EndlessOver, RightOver}
 use Rattle.standing.specs.declared.View.{View}
 use Rattle.standing.specs.View.{rows-in, kept, mark}
 use Rattle.standing.specs.Change.{opened-of, fronted}
-use Rattle.standing.specs.Change.Calls.{Grown, change-grown}
-use Rattle.standing.specs.Ledger.{Ledger, Call, Report, Opens, Accounts}
-use Rattle.standing.specs.Ledger.Laws.{right-among, opening-ledger, opens-is, accounts-is, entry, entries, entry-reports}
+use Rattle.standing.specs.Change.Calls.{Grown, change-grown, change-worked}
+use Rattle.standing.specs.Ledger.{Ledger, Call, Report, Difference, Opens, Accounts, Ordered}
+use Rattle.standing.specs.Ledger.Laws.{right-among, opening-ledger, opening-opens, opens-is, opens-ordered, accounts-is, accounts-ordered, entry, entries, entry-enters, entries-account, enters-reports}
 use Rattle.standing.specs.Runs.{Reply, Ensured, Run, ended, call, Agrees, Agree, Represents, joined-in, left-in}
-use Rattle.standing.specs.Runs.Steps.{Standing, step, steps, standing-rows, standing-ascends, standing-represents, opened-is, opening-standing}
+use Rattle.standing.specs.Runs.Steps.{Standing, step, steps, standing-rows, standing-represents, opened-is, opening-standing}
 
 -- ---- what a list keeps of right answers
 
@@ -48,6 +47,12 @@ module _ (s : Store) (q : Query) where
 marked-none : (a : Result) → mark a ≡ true → kept a ≡ []
 marked-none endless e = refl
 marked-none (listed rows) e = absurd (subst⁻¹ T e tt)
+
+-- ---- one call
+
+-- The number 0 means that the call was worked on.
+pub answered-done : (bs : List ℕ) (s : Store) (v : View) (c : Call) (r : Reply) → Ensured bs s v c r → number (r .0 .answer) ≡ 0 → r .0 .answer ≡ Done
+answered-done bs s v c r made = subst⁻¹ (λ x. number (x .0 .answer) ≡ 0 → x .0 .answer ≡ Done) made (change-worked (c .kind) s v bs (c .tuple) (c .first) (c .second))
 
 -- ---- what is told in all
 
@@ -76,11 +81,19 @@ module _ (bs : List ℕ) (s t : Store) (v w : View) (opened : opened-of s bs ≡
   rows-held : rows-in w ≡ kept (result-of t q)
   rows-held = standing-rows bs q last t w stands
 
+  -- The ledger of the opening is one whose records and rows ascend.
+  ordered : Ordered (opening-ledger q s)
+  ordered = opens-ordered q s (opening-ledger q s) (opening-standing bs s v opened .state .judged) (opening-opens q s)
+
+  -- There is a ledger that is fed the opening's store and query and then the calls.
+  pub run-ledger : (l n : Ledger) × (us : List Report) × Opens (query-read s bs) s l × Accounts (query-read s bs) l cs us n
+  run-ledger = (opening-ledger q s, last, entries q (opening-ledger q s) cs .0, opening-opens q s, entries-account q (opening-ledger q s) cs ordered)
+
   -- The claim: whatever ledger is fed the opening's store and query and then the calls, the replies are its reports, and at the end store and list are its own.
   pub demand : (l n : Ledger) (us : List Report) → Opens (query-read s bs) s l → Accounts (query-read s bs) l cs us n → Agree cs us rs × Represents (query-read s bs) n t w
   demand l n us o a =
       let all = steps bs q run l (subst⁻¹ (λ m. Standing bs q m s v) (opens-is q s l o) (opening-standing bs s v opened)) in
-      let same = accounts-is q a in
+      let same = accounts-is q l n cs us (subst⁻¹ Ordered (opens-is q s l o) ordered) a in
       (subst⁻¹ (λ p. Agree cs (p .0) rs) same (all .0), standing-represents bs q n t w (subst⁻¹ (λ p. Standing bs q (p .1) t w) same (all .1)))
 
   -- Endless exactly when infinitely many rows satisfy the query over the records then held;
@@ -126,36 +139,29 @@ module _ (bs : List ℕ) (s t : Store) (v w : View) (opened : opened-of s bs ≡
       × (r .1 .0 ≡ fronted joined (c .first))
       × (r .1 .1 ≡ fronted left (c .second))
   run-reports c r e d = (
-    joined,
-    left,
-    λ u. in-only-in u now then,
-    λ u. in-only-in u then now,
-    only-in-ascending then (standing-ascends bs q (entry q last c .1) (r .0 .store) (r .0 .view) (next .1)),
-    only-in-ascending now (standing-ascends bs q last t w stands),
-    next .0 .joined-is ∙ ap length (reported .0),
-    next .0 .left-is ∙ ap length (reported .1),
-    next .0 .first-is ∙ ap (λ rows. fronted rows (c .first)) (reported .0),
-    next .0 .second-is ∙ ap (λ rows. fronted rows (c .second)) (reported .1),
+    entry q last c .0 .joined,
+    entry q last c .0 .left,
+    told .0 .1,
+    told .1 .1,
+    told .0 .0,
+    told .1 .0,
+    next .0 .joined-is,
+    next .0 .left-is,
+    next .0 .first-is,
+    next .0 .second-is,
   )
     where
       next : Agrees c (entry q last c .0) r × Standing bs q (entry q last c .1) (r .0 .store) (r .0 .view)
       next = step bs q last t w stands c r e
 
-      then : List Row
-      then = rows-in w
+      rows-now : entry q last c .1 .rows ≡ rows-in (r .0 .view)
+      rows-now = sym (standing-represents bs q (entry q last c .1) (r .0 .store) (r .0 .view) (next .1) .rows-are)
 
-      now : List Row
-      now = rows-in (r .0 .view)
+      rows-before : last .rows ≡ rows-in w
+      rows-before = sym (standing-represents bs q last t w stands .rows-are)
 
-      joined : List Row
-      joined = only-in now then
-
-      left : List Row
-      left = only-in then now
-
-      reported : (entry q last c .0 .joined ≡ joined) × (entry q last c .0 .left ≡ left)
-      reported =
-          let told = entry-reports q last c (sym (next .0 .answer-is) ∙ d) in
-          let after = sym (standing-represents bs q (entry q last c .1) (r .0 .store) (r .0 .view) (next .1) .rows-are) in
-          let before = sym (standing-represents bs q last t w stands .rows-are) in
-          (told .0 ∙ (λ i. only-in (after i) (before i)), told .1 ∙ (λ i. only-in (before i) (after i)))
+      told : Difference (rows-in (r .0 .view)) (rows-in w) (entry q last c .0 .joined) × Difference (rows-in w) (rows-in (r .0 .view)) (entry q last c .0 .left)
+      told =
+          let enters = entry-enters q last c (accounts-ordered q (entries-account q (opening-ledger q s) cs ordered) ordered) in
+          let both = enters-reports q enters (sym (next .0 .number-is) ∙ ap number d) in
+          (subst₂ (λ xs ys. Difference xs ys (entry q last c .0 .joined)) rows-now rows-before (both .0), subst₂ (λ xs ys. Difference xs ys (entry q last c .0 .left)) rows-before rows-now (both .1))

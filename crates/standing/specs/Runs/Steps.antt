@@ -1,5 +1,5 @@
 -- The opening and the calls of a run. A store with three counts decides both a ledger and a list; a call takes both to those of the next store and counts, and
--- its reply is the ledger's report: the engine's checks and the ledger's are the same lists, once no cause before them is met.
+-- its reply is the report of the ledger as a function (`entry`), whose checks are the engine's once no cause before them is met.
 use Prim.Native.Nat.{ℕ, _+_, _*_, _≤_}
 use native.Mathlib.Omega.{arith}
 use mathlib.Core.Path.{_≡_, refl, sym, ap, subst, subst⁻¹, _∙_}
@@ -9,9 +9,8 @@ use lib.ListN.{length, drop, length-append, length-drop}
 use lib.Dec.{T}
 use borrow.Author.Tests.{ltb-false}
 use Rattle.calculus.specs.Sets.{any-of}
-use Rattle.calculus.specs.Order.{Ascending}
 use Rattle.calculus.specs.Generators.{columns}
-use Rattle.calculus.specs.Rows.{Row, row-below, Result, endless, only-in}
+use Rattle.calculus.specs.Rows.{Row, Result, endless, only-in, numbers, Width}
 use Rattle.causes.specs.declared.Answer.{Answer as Outcome}
 use Rattle.causes.specs.declared.Answer.the-variants.{Done, Refused}
 use Rattle.causes.specs.Causes.{Check, check, first-cause, when, is-done}
@@ -20,8 +19,7 @@ use Rattle.tables.specs.declared.Store.{Store}
 use Rattle.tables.specs.Store.{held, judgement, store-checks}
 use Rattle.query.specs.declared.Query.{Query}
 use Rattle.query.specs.Reading.{formula, columns-of, read-checks}
-use Rattle.answer.specs.Listing.{numbers, Width}
-use Rattle.answer.specs.Listing.Rows.{numbers-width}
+use Rattle.answer.specs.Code.Listing.Rows.{numbers-width}
 use Rattle.answer.specs.Reply.{result-of, query-read}
 use Rattle.standing.specs.declared.View.{View}
 use Rattle.standing.specs.View.{rows-in, kept, mark, view-of, suits, QueryColumns}
@@ -32,8 +30,8 @@ use Rattle.standing.specs.Change.{begin-checks, over-checks, opening-rep
 use Rattle.standing.specs.Change.Laws.{begun-judged, begun-few}
 use Rattle.standing.specs.Change.Stores.{after-judged, after-held}
 use Rattle.standing.specs.Change.Turn.{result-wide, report-clear}
-use Rattle.standing.specs.Ledger.{Ledger, Call, Report, renewed, entered}
-use Rattle.standing.specs.Ledger.Laws.{Balanced, renewed-balanced, result-among, found-among, found-ascending, opening-ledger, opening-opens, opens-balanced, entry, entry-by, entries}
+use Rattle.standing.specs.Ledger.{Ledger, Call, Report}
+use Rattle.standing.specs.Ledger.Laws.{Balanced, renewed, entered, renewed-balanced, result-among, found-among, found-ascending, opening-ledger, opening-opens, opens-balanced, entry, entry-by, entries}
 use Rattle.standing.specs.Runs.{Reply, Ensured, Run, ended, call, Agrees, Agree, none, also, Represents}
 
 -- Rows for which there is room leave the length of the buffer.
@@ -183,7 +181,7 @@ module _ (bs : List ℕ) (q : Query) where
       -- A refusal on either side leaves all.
       refused-matches : (n p : ℕ) (found : Result) (m : Ledger) → Matches c (replied (Refused n p) before found) (entered (Refused n p) (ledger-of s o j e) m)
       refused-matches n p found m = (
-        record { answer-is = refl; joined-is = refl; left-is = refl; first-is = refl; second-is = refl; first-length = refl; second-length = refl },
+        record { number-is = refl; place-is = refl; joined-is = refl; left-is = refl; first-is = refl; second-is = refl; first-length = refl; second-length = refl },
         record { opening = o; joined = j; left = e; state = state; ledger-is = refl; view-is = refl },
       )
 
@@ -241,7 +239,8 @@ module _ (bs : List ℕ) (q : Query) where
           accepted-matches : Matches c (replied Done before found) (entered Done (ledger-of s o j e) next)
           accepted-matches = (
             record {
-              answer-is = refl;
+              number-is = refl;
+              place-is = refl;
               joined-is = refl;
               left-is = refl;
               first-is = refl;
@@ -293,12 +292,9 @@ module _ (bs : List ℕ) (q : Query) where
 
   -- ---- what stands for a ledger
 
-  -- The list holds the rows that the query answers over the store, ascending.
+  -- The list holds the rows that the query answers over the store.
   pub standing-rows : (l : Ledger) (s : Store) (v : View) → Standing l s v → rows-in v ≡ kept (result-of s q)
   standing-rows l s v z = ap rows-in (z .view-is) ∙ rows-are s (z .opening) (z .joined) (z .left) (z .state)
-
-  pub standing-ascends : (l : Ledger) (s : Store) (v : View) → Standing l s v → Ascending row-below (rows-in v)
-  standing-ascends l s v z = subst⁻¹ (Ascending row-below) (standing-rows l s v z) (z .state .balanced .ascending)
 
   -- The store and the list are the ledger's.
   pub standing-represents : (l : Ledger) (s : Store) (v : View) → Standing l s v → Represents q l s v

@@ -11,17 +11,16 @@ use mathlib.Core.List.{List, [], _∷_, _++_, map, append-nil}
 use lib.ListN.{length, getD, take, replicate}
 use lib.Seq.{take-suc, take-length, take-append-seam}
 use lib.Dec.{T, eqb, ltb}
-use Rattle.calculus.specs.Reflects.{reflected, reflects, reflects-T, reflects-false, reflects-same, reflects-and, reflects-ltb, decided}
+use Rattle.calculus.specs.Reflects.Laws.{reflected, reflects, reflects-T, reflects-false, reflects-same, reflects-and, reflects-ltb, decided}
 use Rattle.calculus.specs.Sets.{In, here, there, any-of, same-list}
 use Rattle.calculus.specs.Sets.Laws.{in-map, from-map, from-select, reflects-same-list}
 use Rattle.calculus.specs.Lists.{padded}
 use Rattle.calculus.specs.Lists.Laws.{select-same, select-append, place-of, in-take, select-map}
 use Rattle.calculus.specs.Order.{Ascending, is-ascending, leads}
 use Rattle.calculus.specs.Order.Laws.{below-differs, reflects-ascending, ascending-at, select-length}
-use Rattle.calculus.specs.Rows.{Row, row-below, only-in}
+use Rattle.calculus.specs.Rows.{Row, row-below, only-in, Width}
 use Rattle.calculus.specs.Rows.Laws.{row-order, reflects-in-rows}
-use Rattle.answer.specs.Listing.{Width}
-use Rattle.standing.specs.View.{Parted}
+use Rattle.standing.specs.Code.View.{Parted}
 
 -- ---- rows filled up with zeros
 

@@ -7,13 +7,12 @@ use mathlib.Core.Logic.{⊎-elim}
 use mathlib.Core.List.{List, [], _∷_, _++_, map, map-append, append-assoc, append-nil}
 use lib.ListN.{length, getD, take, drop, replicate, length-append, length-map, length-replicate}
 use lib.Seq.{length-take-le, drop-cons, drop-drop, drop-append-le, append-snoc, getD-append-add, take-at, drop-at}
-use Rattle.calculus.specs.Sets.{In, here, there, union-of}
+use Rattle.calculus.specs.Sets.{here, there, union-of}
 use Rattle.calculus.specs.Sets.Laws.{in-append, from-map, union-append}
 use Rattle.calculus.specs.Lists.{tabulate, padded}
-use Rattle.calculus.specs.Lists.Laws.{length-tabulate, getD-tabulate, length-padded, from-tabulate, from-take, tabulate-same, drop-replicate}
-use Rattle.calculus.specs.Rows.{Row}
-use Rattle.answer.specs.Listing.{numbers, Width}
-use Rattle.answer.specs.Listing.Rows.{numbers-width}
+use Rattle.calculus.specs.Lists.Laws.{length-tabulate, getD-tabulate, length-padded, from-tabulate, from-take, tabulate-same, drop-replicate, from-replicate}
+use Rattle.calculus.specs.Rows.{Row, numbers, Width}
+use Rattle.answer.specs.Code.Listing.Rows.{numbers-width}
 use Rattle.standing.specs.View.{line-at, lines, lines-held, lines-unused, stored}
 
 -- ---- the places of the values
@@ -103,10 +102,6 @@ values-filled rows =
 pub stored-none : stored [] .values ≡ replicate 2048 0
 stored-none = refl
 
-in-replicate : (n : ℕ) (r : Row) {w : Row} → In w (replicate n r) → w ≡ r
-in-replicate (suc n) r (here e) = e
-in-replicate (suc n) r (there i) = in-replicate n r i
-
 -- Numbers written over the first of those in the middle.
 middle-written : (before middle after r : List ℕ) (a k : ℕ) → length before ≡ a → k ≤ length middle → take a (before ++ (middle ++ after)) ++ r ++ drop (a + k) (before ++ (middle ++ after)) ≡ before ++ (r ++ drop k middle ++ after)
 middle-written before middle after r a k e h =
@@ -144,7 +139,7 @@ module _ (k : ℕ) (few : k ≤ 4) (rows : List Row) (h : length rows ≤ 512) (
   length-mine = length-map rows (padded 4 0)
 
   width-all : Width 4 (filled rows)
-  width-all w i = ⊎-elim (λ j. width-filled k few rows wide w j) (λ j. ap length (in-replicate (512 - length rows) no-line j)) (in-append mine i)
+  width-all w i = ⊎-elim (λ j. width-filled k few rows wide w j) (λ j. ap length (from-replicate (512 - length rows) no-line j)) (in-append mine i)
 
   length-filled : length (filled rows) ≡ 512
   length-filled = length-append mine others ∙ omega (arith, length-mine, length-replicate (512 - length rows) no-line)

@@ -8,7 +8,7 @@ use lib.ListN.{length, getD, take, drop, replicate, take-append-drop, length-dro
 use lib.Seq.{length-take-le, getD-take, take-append-seam, drop-append-seam}
 use lib.Dec.{T, eqb, ltb}
 use borrow.Author.Tests.{le-leb, lt-leb, eq-eqb}
-use Rattle.calculus.specs.Reflects.{reflected, reflects-T, reflects-true, reflects-false, reflects-map, reflects-and, reflects-not, reflects-eqb, reflects-ltb, reflects-leb}
+use Rattle.calculus.specs.Reflects.Laws.{reflected, reflects-T, reflects-true, reflects-false, reflects-map, reflects-and, reflects-not, reflects-eqb, reflects-ltb, reflects-leb}
 use Rattle.calculus.specs.Sets.{In, here, there, all-of, same-list}
 use Rattle.calculus.specs.Sets.Laws.{reflects-all, reflects-same-list}
 use Rattle.calculus.specs.Lists.{padded}
@@ -17,16 +17,14 @@ use Rattle.calculus.specs.Order.{Ascending, is-ascending}
 use Rattle.calculus.specs.Order.Laws.{ltb-order, reflects-ascending}
 use Rattle.calculus.specs.Generators.{columns}
 use Rattle.calculus.specs.SafeRange.Result.{columns-ascending}
-use Rattle.calculus.specs.Rows.{Row, row-below, Result, endless, listed}
+use Rattle.calculus.specs.Rows.{Row, row-below, Result, endless, listed, Width}
 use Rattle.calculus.specs.Rows.Laws.{row-order}
 use Rattle.query.specs.declared.Columns.{Columns}
 use Rattle.query.specs.declared.Query.{Query}
-use Rattle.query.specs.Reading.{formula, columns-of}
-use Rattle.verdict.specs.Generating.{variables-in}
+use Rattle.query.specs.Reading.{formula, columns-of, variables-in}
 use Rattle.verdict.specs.Verdict.Laws.{column-small}
 use Rattle.standing.specs.declared.Rows.{Rows}
 use Rattle.standing.specs.declared.View.{View}
-use Rattle.answer.specs.Listing.{Width}
 use Rattle.standing.specs.View.{line-at, lines, lines-held, lines-unused, ends, stored, columns-in, rows-in, columns-fit, rows-fit, counts-fit, view-fits, suits, kept, mark, view-of, QueryColumns}
 use Rattle.standing.specs.View.Laws.{length-lines, getD-lines, width-first, width-rows, lines-stored, unused-stored, rows-stored}
 use Rattle.standing.specs.View.Difference.{padded-ascends}

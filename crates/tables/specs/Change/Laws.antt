@@ -14,7 +14,8 @@ use Rattle.calculus.specs.Lists.{padded}
 use Rattle.calculus.specs.Lists.Laws.{select-all, take-padded}
 use Rattle.calculus.specs.Order.{Ascending, before, insert}
 use Rattle.calculus.specs.Order.Laws.{below-differs, below-one-way, from-insert, in-insert, insert-ascending, ascending-select, select-length, length-insert-le}
-use Rattle.calculus.specs.Reflects.{Reflects, holds, fails, reflects, reflected, reflects-true, reflects-false, reflects-T, reflects-map, reflects-not, reflects-leb}
+use Rattle.calculus.specs.Reflects.{Reflects, holds, fails}
+use Rattle.calculus.specs.Reflects.Laws.{reflects, reflected, reflects-true, reflects-false, reflects-T, reflects-map, reflects-not, reflects-leb}
 use Rattle.calculus.specs.Satisfaction.{Fact}
 use Rattle.causes.specs.declared.Answer.{Answer}
 use Rattle.causes.specs.declared.Answer.the-variants.{Done, Refused}
@@ -24,9 +25,10 @@ use Rattle.tables.specs.declared.Record.{Record}
 use Rattle.tables.specs.declared.Store.{Store}
 use Rattle.tables.specs.Records.{blank, record-below, same-record, fits, fact-of}
 use Rattle.tables.specs.Records.Laws.{reflects-same-record, record-order, fact-injective}
-use Rattle.tables.specs.Store.{capacity, places-of, held, facts, in-layout, judgement, of-places, store-of}
-use Rattle.tables.specs.Store.Laws.{length-places, places-store-of, held-store-of, facts-store-of, Layout, reflects-layout, length-held, layout-places, layout-store-of}
-use Rattle.tables.specs.Change.{is-held, without, reply, put-reply, removal-reply, rank, found, raised, lowered, insertion, deletion}
+use Rattle.tables.specs.Store.{capacity, places-of, held, facts, in-layout, judgement, of-places, store-of, Layout}
+use Rattle.tables.specs.Store.Laws.{length-places, places-store-of, held-store-of, facts-store-of, reflects-layout, length-held, layout-places, layout-store-of}
+use Rattle.tables.specs.Change.{is-held, without, reply, put-reply, removal-reply, rank}
+use Rattle.tables.specs.Code.Change.{found, raised, lowered, insertion, deletion}
 
 -- ---- the place of a record
 
@@ -359,10 +361,10 @@ module _ (s : Store) (r : Record) (done : put-reply s r .answer ≡ Done) where
 pub removal-refused : (s : Store) (r : Record) (n p : ℕ) → removal-reply s r .answer ≡ Refused n p → removal-reply s r .store ≡ s
 removal-refused s r n p e = reply-refused (removal-answer s r) s (after-removal s r) n p e
 
-in-without : {r q : Record} {ps : List Record} → In q ps → ¬ (r ≡ q) → In q (without r ps)
+pub in-without : {r q : Record} {ps : List Record} → In q ps → ¬ (r ≡ q) → In q (without r ps)
 in-without {r} {q} i n = in-select (λ p. not (same-record r p)) i (reflects (reflects-not (reflects-same-record r q)) n)
 
-from-without : {q : Record} (r : Record) (ps : List Record) → In q (without r ps) → In q ps × (¬ (r ≡ q))
+pub from-without : {q : Record} (r : Record) (ps : List Record) → In q (without r ps) → In q ps × (¬ (r ≡ q))
 from-without {q} r ps i = let h = from-select (λ p. not (same-record r p)) ps i in (h .0, reflected (reflects-not (reflects-same-record r q)) (h .1))
 
 -- Among records that fit, no other states r's fact: the facts without r are the others.

@@ -3,7 +3,7 @@ use Prim.Native.Nat.{ℕ, _<_, _≤_, _+_}
 use native.Mathlib.Omega.{arith}
 use mathlib.Core.Path.{_≡_, refl, sym, ap, subst, subst⁻¹, _∙_}
 use mathlib.Core.Logic.{_↔_, Iff·trans, _⊎_, inl, inr, ⊎-elim}
-use mathlib.Core.Bool.{Bool, true, false, not, _&&_, cond}
+use mathlib.Core.Bool.{Bool, true, false, not, _&&_}
 use mathlib.Core.List.{List, [], _∷_, _++_, map}
 use lib.ListN.{length, take, getD}
 use lib.Dec.{T, leb}
@@ -13,7 +13,8 @@ use Rattle.calculus.specs.Sets.{In, here, there}
 use Rattle.calculus.specs.Sets.Laws.{in-nil, in-cons, in-map, from-map}
 use Rattle.calculus.specs.Order.{Ascending, nothing, insert}
 use Rattle.calculus.specs.Order.Laws.{from-insert, in-insert, insert-ascending, insert-member, length-insert-le}
-use Rattle.calculus.specs.Reflects.{Reflects, holds, fails, reflects-T, reflects-false, reflects-ltb, reflects-leb}
+use Rattle.calculus.specs.Reflects.{Reflects, holds, fails}
+use Rattle.calculus.specs.Reflects.Laws.{reflects-T, reflects-false, reflects-ltb, reflects-leb}
 use Rattle.calculus.specs.Satisfaction.{Fact}
 use Rattle.causes.specs.declared.Answer.{Answer}
 use Rattle.causes.specs.declared.Answer.the-variants.{Done, Refused}
@@ -24,11 +25,13 @@ use Rattle.tables.specs.declared.Store.{Store}
 use Rattle.tables.specs.declared.Changed.{Changed}
 use Rattle.tables.specs.Records.{record-below, fits, fact-of}
 use Rattle.tables.specs.Records.Laws.{record-order}
-use Rattle.tables.specs.Store.{capacity, facts, store-of, no-store}
-use Rattle.tables.specs.Store.Laws.{held-store-of, facts-store-of, Layout, layout-store-of}
-use Rattle.tables.specs.Change.{is-held, reply, insertion}
+use Rattle.tables.specs.Store.{capacity, facts, store-of, no-store, Layout}
+use Rattle.tables.specs.Store.Laws.{held-store-of, facts-store-of, layout-store-of}
+use Rattle.tables.specs.Change.{is-held, reply}
+use Rattle.tables.specs.Code.Change.{insertion}
 use Rattle.tables.specs.Change.Laws.{reflects-held, put-checks, insertion-in-layout}
-use Rattle.tables.specs.Fill.{unless-refused, fill-from, fill-reply, beginning, merged, collected, collect-all}
+use Rattle.tables.specs.Fill.{unless-refused, fill-from, fill-reply}
+use Rattle.tables.specs.Code.Fill.{beginning, merged, collected, collect-all}
 
 -- ---- collecting
 
@@ -83,11 +86,8 @@ abbrev offered : List ℕ → List Record → Record → Bool → Bool → Bool 
 offered ws ps r b c d = reply (first-cause (check 13 (when (not b)) ∷ check 14 (when c) ∷ check 15 (when d) ∷ [])) (store-of ws ps) (store-of ws (insert record-below r ps))
 
 collected-offered : {ws : List ℕ} {ps : List Record} (r : Record) → Holdable ws ps → collected (holding ws ps) r ≡ merged (holding ws ps) (offered ws ps r (fits ws r) (is-held r ps) (leb capacity (length ps)) .answer) (offered ws ps r (fits ws r) (is-held r ps) (leb capacity (length ps)))
-collected-offered {ws} {ps} r h = ap (λ b. cond b f (merged f (insertion (store-of ws ps) r .answer) (insertion (store-of ws ps) r))) (reflects-false (reflects-ltb 256 (length ps)) (λ l. within l (h .few))) ∙ ap (λ c. merged f (c .answer) c) (insertion-holdable r h)
+collected-offered {ws} {ps} r h = rw (reflects-false (reflects-ltb 256 (length ps)) (λ l. within l (h .few))) (ap (λ c. merged (holding ws ps) (c .answer) c) (insertion-holdable r h))
   where
-    f : Changed
-    f = holding ws ps
-
     within : 256 < length ps → ¬ (length ps ≤ 256)
     within l m = omega arith
 

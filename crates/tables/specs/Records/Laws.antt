@@ -10,7 +10,8 @@ use Rattle.calculus.specs.Sets.Laws.{reflects-same-list}
 use Rattle.calculus.specs.Lists.Laws.{reflects-replicate}
 use Rattle.calculus.specs.Order.{StrictOrder}
 use Rattle.calculus.specs.Order.Laws.{lexicographic-order}
-use Rattle.calculus.specs.Reflects.{Reflects, reflected, reflects-T, reflects-map, reflects-and, reflects-eqb}
+use Rattle.calculus.specs.Reflects.{Reflects}
+use Rattle.calculus.specs.Reflects.Laws.{reflected, reflects-T, reflects-map, reflects-and, reflects-eqb}
 use Rattle.tables.specs.declared.Record.{Record}
 use Rattle.tables.specs.Records.{values-of, numbers-of, record-below, same-record, width, fits, fact-of}
 

@@ -13,7 +13,8 @@ use Rattle.calculus.specs.Lists.{padded}
 use Rattle.calculus.specs.Lists.Laws.{length-tabulate, getD-tabulate, length-padded, reflects-replicate}
 use Rattle.calculus.specs.Order.{Ascending}
 use Rattle.calculus.specs.Order.Laws.{reflects-ascending}
-use Rattle.calculus.specs.Reflects.{Reflects, reflects-T, reflects-map, reflects-and, reflects-leb}
+use Rattle.calculus.specs.Reflects.{Reflects}
+use Rattle.calculus.specs.Reflects.Laws.{reflects-T, reflects-map, reflects-and, reflects-leb}
 use Rattle.causes.specs.declared.Answer.the-variants.{Done}
 use Rattle.causes.specs.Causes.{check, when, widths-fit}
 use Rattle.causes.specs.Causes.Laws.{first-passed}
@@ -21,7 +22,7 @@ use Rattle.tables.specs.declared.Record.{Record}
 use Rattle.tables.specs.declared.Store.{Store}
 use Rattle.tables.specs.Records.{values-of, blank, record-below, is-blank, fits, fact-of}
 use Rattle.tables.specs.Records.Laws.{reflects-same-record, record-order}
-use Rattle.tables.specs.Store.{capacity, record-at, places, places-of, held, unused, facts, in-layout, judgement, store-of}
+use Rattle.tables.specs.Store.{capacity, record-at, places, places-of, held, unused, facts, in-layout, judgement, store-of, Layout}
 
 -- ---- the places of two arrays
 
@@ -74,12 +75,6 @@ pub facts-store-of : (ws : List ℕ) (ps : List Record) → length ps ≤ 256 �
 facts-store-of ws ps h = ap (map (fact-of ws)) (held-store-of ws ps h)
 
 -- ---- the layout
-
-pub record Layout (s : Store) : Type 0 where
-  pub count-fits : s .count ≤ 256
-  pub all-fit : (r : Record) → In r (held s) → T (fits (s .widths) r)
-  pub ascending : Ascending record-below (held s)
-  pub rest-blank : unused s ≡ replicate (256 - s .count) blank
 
 length-unused : (s : Store) → length (unused s) ≡ 256 - s .count
 length-unused s = length-drop (s .count) (places-of s) ∙ ap (λ n. n - s .count) (length-places (s .relations) (s .values))

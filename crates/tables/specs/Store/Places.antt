@@ -9,13 +9,15 @@ use lib.ListN.{length, getD, set, take, drop, length-set, length-map, List·getD
 use lib.Seq.{getD-set-same, getD-set-other, getD-take, length-take-le, ext-getD}
 use mathlib.Core.Bool.{Bool}
 use Rattle.calculus.specs.Sets.{union-of}
-use Rattle.calculus.specs.Reflects.{Reflects, holds, fails, reflects-eqb}
+use Rattle.calculus.specs.Reflects.{Reflects, holds, fails}
+use Rattle.calculus.specs.Reflects.Laws.{reflects-eqb}
 use Rattle.calculus.specs.Lists.{tabulate}
 use Rattle.tables.specs.declared.Record.{Record}
 use Rattle.tables.specs.declared.Store.{Store}
 use Rattle.tables.specs.Records.{values-of, blank}
-use Rattle.tables.specs.Store.{record-at, places, set-four, set-values, held, of-places, store-of}
-use Rattle.tables.specs.Store.Laws.{length-places, getD-places, Layout, length-held, layout-places}
+use Rattle.tables.specs.Store.{record-at, places, held, of-places, store-of, Layout}
+use Rattle.tables.specs.Code.Store.{set-four, set-values}
+use Rattle.tables.specs.Store.Laws.{length-places, getD-places, length-held, layout-places}
 
 -- ---- a place read
 

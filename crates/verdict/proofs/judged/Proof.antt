@@ -10,12 +10,12 @@ use Rattle.calculus.specs.Sets.{In}
 use Rattle.calculus.specs.Generators.{columns}
 use Rattle.query.specs.declared.Query.{Query}
 use Rattle.query.specs.declared.Columns.{Columns}
-use Rattle.query.specs.Free.Laws.{and-settled, and-left-to}
-use Rattle.query.specs.Reading.{max-columns, formula, columns-of}
-use Rattle.verdict.specs.Form.{IsAccepted, IsForm}
+use Rattle.query.specs.Code.Free.Laws.{and-settled, and-left-to}
+use Rattle.query.specs.Reading.{max-columns, formula, columns-of, variables-in}
+use Rattle.verdict.specs.Code.Form.{IsAccepted, IsForm}
 use Rattle.verdict.specs.Form.Laws.{form-is}
-use Rattle.verdict.specs.Generating.{variables-in, plain-bits, missing-from}
-use Rattle.verdict.specs.Generating.Sources.{plains-at}
+use Rattle.verdict.specs.Code.Generating.{plain-bits, missing-from}
+use Rattle.verdict.specs.Code.Generating.Sources.{plains-at}
 use Rattle.verdict.specs.Verdict.{judged}
 use Rattle.verdict.specs.Verdict.Laws.{column-small, variables-read, reply, assembled}
 use Rattle.verdict.proofs.judged.Statement.{statement}

@@ -9,11 +9,13 @@ use lib.Bits.{bitAnd, bitOr, and-step, or-step}
 use lib.Dec.{eqb}
 use borrow.Author.Tests.{eq-eqb, ne-eqb}
 use Rattle.calculus.specs.Sets.{In, here, member}
-use Rattle.calculus.specs.Reflects.{Reflects, holds, fails, reflects-eqb}
+use Rattle.calculus.specs.Reflects.{Reflects, holds, fails}
+use Rattle.calculus.specs.Reflects.Laws.{reflects-eqb}
 use Rattle.calculus.specs.Generators.{is-empty}
-use Rattle.query.specs.Free.Laws.{member-append}
+use Rattle.query.specs.Code.Free.Laws.{member-append}
 use Rattle.query.specs.Nodes.{nonzero}
-use Rattle.verdict.specs.Bits.{bit, bits, mask, has, without}
+use Rattle.verdict.specs.Bits.{bit, bits, mask, has}
+use Rattle.verdict.specs.Code.Generating.{without}
 
 -- ---- one number more
 

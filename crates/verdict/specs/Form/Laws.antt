@@ -11,7 +11,8 @@ use lib.Seq.{getD-at, take-at, getD-append-add}
 use lib.Dec.{T, eqb, ltb}
 use borrow.Author.Tests.{ne-eqb, eqb-false}
 use Rattle.calculus.specs.Sets.{member}
-use Rattle.calculus.specs.Reflects.{Reflects, holds, fails, reflects-leb}
+use Rattle.calculus.specs.Reflects.{Reflects, holds, fails}
+use Rattle.calculus.specs.Reflects.Laws.{reflects-leb}
 use Rattle.calculus.specs.Formula.{Term, var, con, Fmla, truth, rel, eq, neg, conj, disj, exists, fv, size}
 use Rattle.calculus.specs.Order.Laws.{ltb-order, ascending-distinct, pigeonhole}
 use Rattle.calculus.specs.Generators.{columns}
@@ -30,7 +31,8 @@ use Rattle.query.specs.Packing.Laws.{size-positive, length-words, words-tree, r
 use Rattle.query.specs.Accepted.{Accepted}
 use Rattle.query.specs.Accepted.Laws.{pool-of, nodes-of-query, node-at, packed-accepted, formula-last, nodes-length-is}
 use Rattle.query.specs.Accepted.Order.{nonzero-false, truth-again, record-again, equality-again, record-width}
-use Rattle.verdict.specs.Form.{form-of, IsForm, last, true-word, settled, negated, joined, quantified}
+use Rattle.verdict.specs.Form.{form-of}
+use Rattle.verdict.specs.Code.Form.{IsForm, last, true-word, settled, negated, joined, quantified}
 
 -- The kind of an and, and that of an or.
 abbrev pub join-kind : Bool → ℕ

@@ -8,4 +8,4 @@ use Rattle.verdict.specs.Verdict.{reported, verdict-of}
 use Rattle.verdict.specs.Verdict.Laws.{verdict-done}
 
 pub case-verdict : (c : Case) → In c cases → verdict-of widths (c .bytes) ≡ reported (form-of (read-case c .query)) (c .says)
-case-verdict c i = let r = cases-right c i in verdict-done widths (c .bytes) (r .1) ∙ ap (reported (form-of (read-case c .query))) (r .2)
+case-verdict c i = let r = cases-right c i in verdict-done widths (c .bytes) (r .accepted) ∙ ap (reported (form-of (read-case c .query))) (r .verdict-is)

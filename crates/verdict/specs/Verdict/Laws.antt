@@ -1,8 +1,8 @@
 -- What the verdict's reply says: its form is an accepted query of the propagated formula, the bits of its numbers are the generators and the reports of the
 -- calculus, and safe-range is 000's, widened as document 01 says.
-use Prim.Native.Nat.{ℕ, zero, suc, _-_, _≤_, _<_}
+use Prim.Native.Nat.{ℕ, zero, suc, _-_, _≤_, _<_, _^_}
 use native.Mathlib.Omega.{arith}
-use mathlib.Core.Path.{_≡_, refl, sym, ap, subst⁻¹, _∙_}
+use mathlib.Core.Path.{_≡_, refl, sym, ap, subst⁻¹, _∙_, subst}
 use mathlib.Core.Logic.{_↔_}
 use mathlib.Core.Bool.{Bool, true, _&&_}
 use mathlib.Core.List.{List, [], _∷_, map, map-map}
@@ -13,33 +13,35 @@ use Rattle.calculus.specs.Sets.{In, member, union-of}
 use Rattle.calculus.specs.Sets.Laws.{in-nil, reflects-member}
 use Rattle.calculus.specs.Lists.{padded}
 use Rattle.calculus.specs.Lists.Laws.{getD-padded}
-use Rattle.calculus.specs.Reflects.{Reflects, reflected, reflects-map}
+use Rattle.calculus.specs.Reflects.{Reflects}
+use Rattle.calculus.specs.Reflects.Laws.{reflected, reflects-map}
 use Rattle.calculus.specs.Formula.{Fmla, fv, size, node, nodes}
 use Rattle.calculus.specs.Formula.Laws.{node-below}
 use Rattle.calculus.specs.Propagation.{cp}
 use Rattle.calculus.specs.Generation.{Ap, Generated}
-use Rattle.calculus.specs.Generators.{Leaves, LeavesRight, generated-by, not-generated, AtNode, columns, plain, leaves, unranged-node, verdict, safe}
+use Rattle.calculus.specs.Generators.{Leaves, columns, plain, leaves, unranged-node, verdict, safe}
+use Rattle.calculus.specs.Sources.{LeavesRight, generated-by, not-generated, AtNode}
 use Rattle.calculus.specs.Generators.Laws.{plain-right, leaf-atom}
-use Rattle.calculus.specs.SafeRange.{SafeRange}
-use Rattle.calculus.specs.SafeRange.Result.{columns-members, ungenerated-means, Unranged, unranged-means, safe-reflects}
+use Rattle.calculus.specs.SafeRange.{SafeRange, Unranged}
+use Rattle.calculus.specs.SafeRange.Result.{columns-members, ungenerated-means, unranged-means, safe-reflects}
+use Rattle.calculus.specs.Propagation.Laws.{size-cp}
 use Rattle.causes.specs.declared.Answer.the-variants.{Done, Refused}
 use Rattle.query.specs.declared.Query.{Query}
 use Rattle.query.specs.declared.Columns.{Columns}
 use Rattle.query.specs.declared.Reading.{Reading}
 use Rattle.query.specs.Decoding.{formula-at}
-use Rattle.query.specs.Free.Laws.{fv-small}
-use Rattle.query.specs.Reading.{max-nodes, max-columns, read-of, nodes-in, pool, formula, columns-of}
-use Rattle.query.specs.Packing.Bytes.{Bytes, bytes-at}
+use Rattle.query.specs.Code.Free.Laws.{fv-small}
+use Rattle.query.specs.Reading.{max-nodes, max-columns, read-of, nodes-in, pool, formula, columns-of, variables-in, max-constants, constants-of, nodes-of}
 use Rattle.query.specs.Packing.Laws.{length-words}
 use Rattle.query.specs.Accepted.{Accepted}
-use Rattle.query.specs.Accepted.Laws.{read-accepted, read-refused}
+use Rattle.query.specs.Accepted.Laws.{read-refused, read-done, read-size, reading-accepted, pool-of}
 use Rattle.verdict.specs.declared.Verdict.{Verdict}
 use Rattle.verdict.specs.Bits.{mask, node-mask, has}
 use Rattle.verdict.specs.Bits.Laws.{has-bits, mask-empty}
 use Rattle.verdict.specs.Form.{form-of}
 use Rattle.verdict.specs.Form.Laws.{form-accepted, form-count, form-formula, form-pool, form-is, form-root}
-use Rattle.verdict.specs.Generating.{variables-in, generated-bits, plain-bits, numbers-of, missing-from, unranged-in}
-use Rattle.verdict.specs.Generating.Reports.{numbers-right, unranged-right, missing-right}
+use Rattle.verdict.specs.Code.Generating.{generated-bits, plain-bits, numbers-of, missing-from, unranged-in}
+use Rattle.verdict.specs.Code.Generating.Reports.{numbers-right, unranged-right, missing-right}
 use Rattle.verdict.specs.Verdict.{refusal-with, refusal, judged, verdict-reply, verdict-of}
 
 -- ---- the reply, by the reader's answer
@@ -91,16 +93,20 @@ column-small q x i = fv-small (nodes-in q) (length (nodes-in q) - 1) x (columns-
 ungenerated-small : (q : Query) (x : ℕ) → In x (verdict (formula q) .ungenerated) → x < 16
 ungenerated-small q x i = fv-small (nodes-in q) (length (nodes-in q) - 1) x (ungenerated-means (formula q) x .0 i .0)
 
+-- A query's form has as many nodes as the propagated formula.
+form-size : (q : Query) → size (cp (formula q)) ≡ form-of q .«node_count»
+form-size q = sym (length-words (cp (formula q)) 0)
+
+-- Safe-range exactly when both reports are zero, where the form has at most 64 nodes.
+safe-zero : (q : Query) → size (cp (formula q)) ≤ max-nodes → judged q .safe ≡ (eqb (judged q .ungenerated) 0 && eqb (judged q .unranged) 0)
+safe-zero q few = λ i. sym (mask-empty 16 (verdict (formula q) .ungenerated) (ungenerated-small q)) i && sym (mask-empty max-nodes (verdict (formula q) .unranged) unranged-small) i
+  where
+    unranged-small : (k : ℕ) → In k (verdict (formula q) .unranged) → k < max-nodes
+    unranged-small k i = let s = unranged-means (formula q) k .0 i in omega (arith, node-below (cp (formula q)) (s .0) 0 k (s .1), few)
+
 module _ (ws : List ℕ) (q : Query) (a : Accepted ws q) where
-  form-size : size (cp (formula q)) ≡ form-of q .«node_count»
-  form-size = sym (length-words (cp (formula q)) 0)
-
-  unranged-small : (k : ℕ) → In k (verdict (formula q) .unranged) → k < max-nodes
-  unranged-small k i = let s = unranged-means (formula q) k .0 i in omega (arith, node-below (cp (formula q)) (s .0) 0 k (s .1), form-size, form-accepted ws q a .few-nodes)
-
-  -- Safe-range exactly when both reports are zero.
   pub judged-safe : judged q .safe ≡ (eqb (judged q .ungenerated) 0 && eqb (judged q .unranged) 0)
-  judged-safe = λ i. sym (mask-empty 16 (verdict (formula q) .ungenerated) (ungenerated-small q)) i && sym (mask-empty max-nodes (verdict (formula q) .unranged) unranged-small) i
+  judged-safe = safe-zero q (omega (arith, form-size q, form-accepted ws q a .few-nodes))
 
   -- ---- the numbers, bit by bit
 
@@ -129,7 +135,7 @@ module _ (ws : List ℕ) (q : Query) (a : Accepted ws q) where
   -- ---- what the parts of the code find is the verdict
 
   form-spans : size (formula-at (form-of q .nodes) (form-of q .«node_count» - 1)) ≡ form-of q .«node_count»
-  form-spans = ap size (form-root ws q a) ∙ form-size
+  form-spans = ap size (form-root ws q a) ∙ form-size q
 
   pub variables-read : variables-in (columns-of (columns (formula q))) ≡ columns (formula q)
   variables-read = take-append-seam (columns (formula q)) (replicate (max-columns - length (columns (formula q))) 0)
@@ -167,23 +173,33 @@ assembled ws q a f cs gs u w b e d eg eu ew eb =
 
 -- ---- of the bytes
 
--- The reply to accepted bytes: the query as read is accepted, and the verdict on it is `judged`.
-module _ (ws bs : List ℕ) (bytes : Bytes bs) (done : read-of ws bs .answer ≡ Done) where
-  pub query-accepted : Accepted ws (read-of ws bs .query)
-  query-accepted = read-accepted ws bs (bytes-at bs bytes) done
-
-  -- The form is itself an accepted query for the same widths, with the same constants and at most as many nodes, and stands for the propagated formula.
-  pub verdict-form : Accepted ws (verdict-of ws bs .form) × (formula (verdict-of ws bs .form) ≡ cp (formula (read-of ws bs .query))) × (pool (verdict-of ws bs .form) ≡ pool (read-of ws bs .query)) × (verdict-of ws bs .form .«node_count» ≤ read-of ws bs .query .«node_count»)
-  verdict-form =
-      let q = read-of ws bs .query in
-      subst⁻¹
-      (λ v. Accepted ws (v .form) × (formula (v .form) ≡ cp (formula q)) × (pool (v .form) ≡ pool q) × (v .form .«node_count» ≤ q .«node_count»))
-      (verdict-done ws bs done)
-      (form-accepted ws q query-accepted, form-formula ws q query-accepted, form-pool ws q query-accepted, form-count ws q query-accepted)
-
+-- The reply to accepted bytes.
+module _ (ws bs : List ℕ) (done : read-of ws bs .answer ≡ Done) where
   -- The verdict is safe-range of 000, widened as document 01 says, and it is that both reports are zero.
   pub verdict-safe : Reflects (SafeRange (formula (read-of ws bs .query))) (verdict-of ws bs .safe)
   verdict-safe = subst⁻¹ (λ v. Reflects (SafeRange (formula (read-of ws bs .query))) (v .safe)) (verdict-done ws bs done) (safe-reflects (formula (read-of ws bs .query)))
 
   pub verdict-safe-zero : verdict-of ws bs .safe ≡ (eqb (verdict-of ws bs .ungenerated) 0 && eqb (verdict-of ws bs .unranged) 0)
-  verdict-safe-zero = subst⁻¹ (λ v. v .safe ≡ (eqb (v .ungenerated) 0 && eqb (v .unranged) 0)) (verdict-done ws bs done) (judged-safe ws (read-of ws bs .query) query-accepted)
+  verdict-safe-zero =
+      let q : Query = read-of ws bs .query in
+      subst⁻¹ (λ v. v .safe ≡ (eqb (v .ungenerated) 0 && eqb (v .unranged) 0)) (verdict-done ws bs done) (safe-zero q (omega (arith, size-cp (formula q), read-size ws bs done)))
+
+  -- The form has the constants of the query as read.
+  pub form-constants : form-of (read-of ws bs .query) .constants ≡ read-of ws bs .query .constants
+  form-constants =
+      let r = read-done ws bs done in
+      ap (λ x. padded max-constants 0 (pool (x .query))) r ∙ ap (padded max-constants 0) (pool-of (constants-of bs) (nodes-of bs)) ∙ ap (λ x. x .query .constants) (sym r)
+
+  -- The constants in the reply are 32-bit numbers, as in every reply of a call: an array of them is.
+  module _ (small : (i : ℕ) → getD (verdict-of ws bs .form .constants) i 0 < 2 ^ 32) where
+    query-accepted : Accepted ws (read-of ws bs .query)
+    query-accepted = reading-accepted ws bs (subst (λ cs. (i : ℕ) → getD cs i 0 < 2 ^ 32) (ap (λ v. v .form .constants) (verdict-done ws bs done) ∙ form-constants) small) done
+
+    -- The form is itself an accepted query for the same widths, with the same constants and at most as many nodes, and stands for the propagated formula.
+    pub verdict-form : Accepted ws (verdict-of ws bs .form) × (formula (verdict-of ws bs .form) ≡ cp (formula (read-of ws bs .query))) × (pool (verdict-of ws bs .form) ≡ pool (read-of ws bs .query)) × (verdict-of ws bs .form .«node_count» ≤ read-of ws bs .query .«node_count»)
+    verdict-form =
+        let q = read-of ws bs .query in
+        subst⁻¹
+        (λ v. Accepted ws (v .form) × (formula (v .form) ≡ cp (formula q)) × (pool (v .form) ≡ pool q) × (v .form .«node_count» ≤ q .«node_count»))
+        (verdict-done ws bs done)
+        (form-accepted ws q query-accepted, form-formula ws q query-accepted, form-pool ws q query-accepted, form-count ws q query-accepted)

@@ -11,8 +11,8 @@ use Rattle.calculus.specs.Sets.{union-of}
 use Rattle.query.specs.declared.Query.{Query}
 use Rattle.query.specs.Reading.{pool, nodes-in}
 use Rattle.query.specs.Packing.{word-bytes, header-bytes}
-use Rattle.answer.specs.Listing.{overlay}
-use Rattle.answer.specs.Listing.Laws.{length-overlay}
+use Rattle.answer.specs.Code.Listing.{overlay}
+use Rattle.answer.specs.Code.Listing.Laws.{length-overlay}
 use Rattle.host.specs.Entry.{form-bytes}
 use Rattle.host.specs.Entry.Laws.{then-run, length-words}
 use Rattle.host.proofs.bytes.form.Statement.{statement}
@@ -105,7 +105,7 @@ add-words : tie.Need-add-words
 add-words c = search needs
 
 words-requires : tie.Need-words-requires
-words-requires c κs = let s = c .before .before .before .before .before in (omega (arith, constants-long s), omega arith, simp length-set (omega arith), omega arith)
+words-requires c κs = let s = c .before .before .before .before .before in (omega (arith, constants-long s), simp length-set (omega arith))
 
 slice-aggregate-words-2 : tie.Need-slice-aggregate-words-2
 slice-aggregate-words-2 c = search needs
@@ -120,7 +120,7 @@ add-words-3 : tie.Need-add-words-3
 add-words-3 c = search needs
 
 words-requires-2 : tie.Need-words-requires-2
-words-requires-2 c κs = let w = c .before .before .before .before in (omega (arith, nodes-long (start w)), omega arith, omega (arith, still-long w), omega arith)
+words-requires-2 c κs = let w = c .before .before .before .before in (omega (arith, nodes-long (start w)), omega (arith, still-long w))
 
 same-length : tie.Need-same-length
 same-length c = let w = c .before .before in let a = start (constants w) .args in ap length (form-written w) ∙ length-overlay (a .at) (form-bytes (a .q)) (a .out .now)

@@ -6,8 +6,8 @@ use mathlib.Core.Path.{_≡_, refl, sym, ap, _∙_}
 use lib.ListN.{length, getD, take}
 use Rattle.calculus.specs.Sets.{union-of}
 use Rattle.query.specs.Packing.{word-bytes}
-use Rattle.answer.specs.Listing.{overlay}
-use Rattle.answer.specs.Listing.Laws.{length-overlay}
+use Rattle.answer.specs.Code.Listing.{overlay}
+use Rattle.answer.specs.Code.Listing.Laws.{length-overlay}
 use Rattle.host.specs.Entry.Laws.{then-run, next-word, length-words}
 use Rattle.host.proofs.bytes.words.Statement.{statement}
 use Rattle.host.proofs.bytes.words.Tie as tie

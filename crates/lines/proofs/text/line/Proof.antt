@@ -6,7 +6,8 @@ use mathlib.Core.Path.{_≡_, ap, _∙_}
 use mathlib.Core.List.{List, [], _∷_, _++_, append-assoc}
 use lib.ListN.{length, take, drop, set, length-append, length-drop, length-set}
 use lib.Seq.{length-take-le}
-use Rattle.lines.specs.Text.{spaced, line, wrote}
+use Rattle.lines.specs.Text.{spaced, line}
+use Rattle.lines.specs.Code.Text.{wrote}
 use Rattle.lines.specs.Text.Laws.{wrote-then, wrote-byte, wrote-end, wrote-length, length-spaced}
 use Rattle.lines.proofs.text.line.Statement.{statement}
 use Rattle.lines.proofs.text.line.Tie as tie

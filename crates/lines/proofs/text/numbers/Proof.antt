@@ -7,7 +7,8 @@ use mathlib.Core.Path.{_≡_, sym, ap, _∙_}
 use mathlib.Core.List.{List, [], _∷_, _++_, append-nil}
 use lib.ListN.{length, getD, take, drop, length-drop}
 use lib.Seq.{take-suc, getD-drop, length-take-le}
-use Rattle.lines.specs.Text.{decimal, spaced, wrote}
+use Rattle.lines.specs.Text.{decimal, spaced}
+use Rattle.lines.specs.Code.Text.{wrote}
 use Rattle.lines.specs.Text.Laws.{wrote-none, wrote-then, wrote-end, wrote-length, length-spaced, spaced-append}
 use Rattle.lines.proofs.text.numbers.Statement.{statement}
 use Rattle.lines.proofs.text.numbers.Tie as tie

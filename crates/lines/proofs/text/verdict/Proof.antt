@@ -3,7 +3,8 @@ use borrow.Author.Needs.{needs}
 use mathlib.Core.Path.{sym, ap, _∙_}
 use mathlib.Core.Bool.{cond}
 use mathlib.Core.List.{[]}
-use Rattle.lines.specs.Text.{line, word-safe, word-unsafe, wrote}
+use Rattle.lines.specs.Text.{line, word-safe, word-unsafe}
+use Rattle.lines.specs.Code.Text.{wrote}
 use Rattle.lines.proofs.text.verdict.Statement.{statement}
 use Rattle.lines.proofs.text.verdict.Tie as tie
 

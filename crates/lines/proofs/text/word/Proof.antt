@@ -7,7 +7,7 @@ use mathlib.Core.Path.{_≡_, refl, sym, ap, _∙_}
 use mathlib.Core.List.{List}
 use lib.ListN.{length, getD, take, set, length-set}
 use lib.Seq.{take-suc, take-length}
-use Rattle.lines.specs.Text.{wrote}
+use Rattle.lines.specs.Code.Text.{wrote}
 use Rattle.lines.specs.Text.Laws.{wrote-byte}
 use Rattle.lines.proofs.text.word.Statement.{statement}
 use Rattle.lines.proofs.text.word.Tie as tie

@@ -9,7 +9,7 @@ use Rattle.calculus.specs.Lists.{tabulate}
 use Rattle.calculus.specs.Lists.Laws.{tabulate-next}
 use Rattle.tables.specs.declared.Changed.{Changed}
 use Rattle.tables.specs.declared.Record.{Record}
-use Rattle.tables.specs.Fill.{collected, collect-all}
+use Rattle.tables.specs.Code.Fill.{collected, collect-all}
 use Rattle.tables.specs.Fill.Laws.{collect-last}
 use Rattle.packed.specs.Packed.{record-at}
 use Rattle.packed.proofs.part.fill.Statement.{statement}

@@ -6,7 +6,7 @@ use mathlib.Core.Path.{_≡_, sym, _∙_}
 use mathlib.Core.List.{[], _∷_}
 use lib.ListN.{take}
 use Rattle.calculus.specs.Sets.{member}
-use Rattle.query.specs.Free.Laws.{member-none, member-first, member-later, member-last}
+use Rattle.query.specs.Code.Free.Laws.{member-none, member-first, member-later, member-last}
 use Rattle.query.proofs.free.among.Statement.{statement}
 use Rattle.query.proofs.free.among.Tie as tie
 

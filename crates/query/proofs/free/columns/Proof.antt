@@ -7,7 +7,7 @@ use mathlib.Core.Logic.{⊎-elim}
 use denote.Ref.{now}
 use lib.ListN.{take}
 use Rattle.query.specs.Decoding.{root}
-use Rattle.query.specs.Free.Laws.{Found, found-as, found-none, found-few, found-missed, found-put, found-past, found-all}
+use Rattle.query.specs.Code.Free.Laws.{Found, found-as, found-none, found-few, found-missed, found-put, found-past, found-all}
 use Rattle.query.proofs.free.columns.Statement.{statement}
 use Rattle.query.proofs.free.columns.Tie as tie
 

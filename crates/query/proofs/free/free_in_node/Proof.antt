@@ -10,7 +10,7 @@ use denote.Ref.{now}
 use lib.ListN.{getD}
 use lib.Dec.{eqb}
 use Rattle.query.specs.Nodes.{variable, equal-term, left, right, under}
-use Rattle.query.specs.Free.Laws.{free-of-kind, free-of-both, free-of-none, or-settled, or-left-to, and-settled, and-left-to}
+use Rattle.query.specs.Code.Free.Laws.{free-of-kind, free-of-both, free-of-none, or-settled, or-left-to, and-settled, and-left-to}
 use Rattle.query.proofs.free.free_in_node.Statement.{statement}
 use Rattle.query.proofs.free.free_in_node.Tie as tie
 

@@ -5,7 +5,7 @@ use borrow.Author.Needs.{needs}
 use mathlib.Core.Path.{_≡_, refl, subst}
 use denote.Ref.{now}
 use lib.ListN.{length, length-set}
-use Rattle.query.specs.Free.Laws.{Marks, marks-none, marks-more, marks-root}
+use Rattle.query.specs.Code.Free.Laws.{Marks, marks-none, marks-more, marks-root}
 use Rattle.query.proofs.free.is_free.Statement.{statement}
 use Rattle.query.proofs.free.is_free.Tie as tie
 

@@ -7,7 +7,8 @@ use mathlib.Core.List.{List}
 use lib.ListN.{length, getD, take}
 use Rattle.calculus.specs.Lists.{tabulate}
 use Rattle.calculus.specs.Lists.Laws.{getD-tabulate}
-use Rattle.query.specs.Nodes.{uses, counted-with}
+use Rattle.query.specs.Nodes.{uses}
+use Rattle.query.specs.Code.Judging.{counted-with}
 use Rattle.query.specs.Nodes.Laws.{uses-fit, counted-next}
 use Rattle.query.proofs.judge.count_uses.Statement.{statement}
 use Rattle.query.proofs.judge.count_uses.Tie as tie

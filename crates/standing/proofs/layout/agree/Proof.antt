@@ -2,7 +2,8 @@
 use borrow.Author.Needs.{needs}
 use mathlib.Core.Path.{_≡_, ap}
 use lib.ListN.{length, getD}
-use Rattle.calculus.specs.Reflects.{fails, reflects-map, reflects-eqb}
+use Rattle.calculus.specs.Reflects.{fails}
+use Rattle.calculus.specs.Reflects.Laws.{reflects-map, reflects-eqb}
 use Rattle.query.specs.declared.Columns.{Columns}
 use Rattle.standing.proofs.Judging.{columns-same}
 use Rattle.standing.proofs.layout.agree.Statement.{statement}

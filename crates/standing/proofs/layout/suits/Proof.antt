@@ -7,7 +7,7 @@ use mathlib.Core.Logic.{⊎-elim}
 use mathlib.Core.Bool.{true, false, _&&_}
 use lib.ListN.{length}
 use lib.Dec.{ltb}
-use Rattle.calculus.specs.Reflects.{confirmed-by, refuted}
+use Rattle.calculus.specs.Reflects.Laws.{confirmed-by, refuted}
 use Rattle.calculus.specs.Sets.{all-of}
 use Rattle.calculus.specs.Order.{is-ascending}
 use Rattle.calculus.specs.Rows.{row-below}

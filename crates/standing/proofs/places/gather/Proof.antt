@@ -6,7 +6,7 @@ use borrow.Author.Needs.{needs}
 use mathlib.Core.Path.{_≡_, refl, sym, ap, _∙_}
 use lib.ListN.{length}
 use Rattle.standing.specs.Change.{fronted}
-use Rattle.answer.specs.Listing.Cut.{position-next, position-within}
+use Rattle.answer.specs.Code.Listing.Cut.{position-next, position-within}
 use Rattle.standing.proofs.Carrying.{first-rows, position-small, gather-next}
 use Rattle.standing.proofs.places.gather.Statement.{statement}
 use Rattle.standing.proofs.places.gather.Tie as tie

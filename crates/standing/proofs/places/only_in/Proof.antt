@@ -9,7 +9,8 @@ use mathlib.Core.Logic.{⊎-elim}
 use lib.ListN.{length, take}
 use Rattle.calculus.specs.Sets.{any-of, same-list}
 use Rattle.calculus.specs.Rows.{Row}
-use Rattle.standing.specs.View.{line-at, lines, lines-held, stored, Passed}
+use Rattle.standing.specs.View.{line-at, lines, lines-held, stored}
+use Rattle.standing.specs.Code.View.{Passed}
 use Rattle.calculus.specs.Lists.Laws.{tested}
 use Rattle.standing.proofs.Walking.{passed-on, found, written, found-none, found-sizes, found-without, found-written}
 use Rattle.standing.proofs.places.only_in.Statement.{statement}

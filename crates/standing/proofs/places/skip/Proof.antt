@@ -8,7 +8,8 @@ use mathlib.Core.List.{[]}
 use lib.ListN.{getD, take}
 use lib.Dec.{T}
 use Rattle.calculus.specs.Rows.{Row, row-below}
-use Rattle.standing.specs.View.{lines, values-of, Passed}
+use Rattle.standing.specs.View.{lines}
+use Rattle.standing.specs.Code.View.{values-of, Passed}
 use Rattle.standing.specs.View.Layout.{length-first, getD-first}
 use Rattle.calculus.specs.Lists.Laws.{tested}
 use Rattle.standing.proofs.Walking.{passed-next}

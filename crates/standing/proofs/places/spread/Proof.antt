@@ -5,8 +5,8 @@ use native.Mathlib.Nat.{zero-mul}
 use borrow.Author.Needs.{needs}
 use mathlib.Core.Path.{_≡_, sym, ap, _∙_}
 use lib.ListN.{length}
-use Rattle.answer.specs.Listing.{cut}
-use Rattle.answer.specs.Listing.Cut.{length-cut, position-next, position-within}
+use Rattle.answer.specs.Code.Listing.{cut}
+use Rattle.answer.specs.Code.Listing.Cut.{length-cut, position-next, position-within}
 use Rattle.standing.specs.View.{stored}
 use Rattle.standing.specs.View.Laws.{stored-none}
 use Rattle.standing.proofs.Carrying.{position-small, spread-next}

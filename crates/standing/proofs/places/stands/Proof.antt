@@ -2,7 +2,7 @@
 use borrow.Author.Needs.{needs}
 use mathlib.Core.Path.{ap, _∙_}
 use Rattle.calculus.specs.Sets.{same-list}
-use Rattle.standing.specs.View.{values-of}
+use Rattle.standing.specs.Code.View.{values-of}
 use Rattle.standing.proofs.Walking.{stands-past, stands-at}
 use Rattle.standing.proofs.places.stands.Statement.{statement}
 use Rattle.standing.proofs.places.stands.Tie as tie

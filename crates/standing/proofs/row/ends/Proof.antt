@@ -1,7 +1,7 @@
 -- `standing::row::ends` meets its contract: a value past the first k that is not zero decides, and else each that was looked at is zero.
 use native.Mathlib.Omega.{arith}
 use mathlib.Core.Logic.{⊎-elim}
-use Rattle.standing.specs.View.{values-of}
+use Rattle.standing.specs.Code.View.{values-of}
 use Rattle.standing.proofs.Judging.{ends-fails, ends-holds}
 use Rattle.standing.proofs.row.ends.Statement.{statement}
 use Rattle.standing.proofs.row.ends.Tie as tie

@@ -7,7 +7,7 @@ use mathlib.Core.Bool.{true, false}
 use Rattle.tables.specs.Records.{fits}
 use Rattle.tables.specs.Store.{held}
 use Rattle.tables.specs.Store.Laws.{length-held}
-use Rattle.tables.specs.Change.{found}
+use Rattle.tables.specs.Code.Change.{found}
 use Rattle.tables.specs.Change.Laws.{rank-le}
 use Rattle.tables.proofs.Laws.{spot-fits, spot-place, spot-held, insertion-unfit, insertion-held, insertion-full, insertion-done}
 use Rattle.tables.proofs.change.insert.Statement.{statement}

@@ -7,7 +7,7 @@ use lib.ListN.{length}
 use Rattle.tables.specs.Records.{blank}
 use Rattle.tables.specs.Store.{places, places-of}
 use Rattle.tables.specs.Store.Places.{remove-at}
-use Rattle.tables.specs.Change.{lowered}
+use Rattle.tables.specs.Code.Change.{lowered}
 use Rattle.tables.proofs.Laws.{written, lower-turn, lower-end, store-is}
 use Rattle.tables.proofs.change.lower.Statement.{statement}
 use Rattle.tables.proofs.change.lower.Tie as tie

@@ -6,7 +6,7 @@ use mathlib.Core.Path.{_≡_, refl, _∙_}
 use lib.ListN.{length}
 use Rattle.tables.specs.Store.{places, places-of}
 use Rattle.tables.specs.Store.Places.{insert-at}
-use Rattle.tables.specs.Change.{raised}
+use Rattle.tables.specs.Code.Change.{raised}
 use Rattle.tables.proofs.Laws.{written, raise-turn, raise-end, store-is}
 use Rattle.tables.proofs.change.raise.Statement.{statement}
 use Rattle.tables.proofs.change.raise.Tie as tie

@@ -1,7 +1,7 @@
 -- `tables::change::remove` meets its contract: for a store in the layout the deletion, by place, is the removal.
 use borrow.Author.Needs.{needs}
 use mathlib.Core.Path.{_≡_, sym, _∙_}
-use Rattle.calculus.specs.Reflects.{reflected}
+use Rattle.calculus.specs.Reflects.Laws.{reflected}
 use Rattle.causes.specs.declared.Answer.the-variants.{Done}
 use Rattle.tables.specs.Store.{judgement}
 use Rattle.tables.specs.Store.Laws.{reflects-layout, judged-layout}

@@ -8,7 +8,7 @@ use mathlib.Core.List.{[], _∷_}
 use lib.Bits.{bitOr, or-zero-l, or-zero-r}
 use Rattle.query.specs.Nodes.{kind, variable, equal-term}
 use Rattle.verdict.specs.Bits.{has, variable-mask}
-use Rattle.verdict.specs.Generating.{equated-set}
+use Rattle.verdict.specs.Code.Generating.{equated-set}
 use Rattle.verdict.proofs.Sets.{equated-by}
 use Rattle.verdict.proofs.generate.equated.Statement.{statement}
 use Rattle.verdict.proofs.generate.equated.Tie as tie

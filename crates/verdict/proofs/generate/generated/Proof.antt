@@ -5,8 +5,8 @@ use native.Mathlib.Omega.{arith}
 use borrow.Author.Needs.{needs}
 use mathlib.Core.Path.{_≡_}
 use denote.Ref.{now}
-use Rattle.verdict.specs.Form.{IsForm}
-use Rattle.verdict.specs.Generating.{plain-bits, denied-bits}
+use Rattle.verdict.specs.Code.Form.{IsForm}
+use Rattle.verdict.specs.Code.Generating.{plain-bits, denied-bits}
 use Rattle.verdict.proofs.Sets.{first-sets, plain-next, denied-next, sets-found}
 use Rattle.verdict.proofs.generate.generated.Statement.{statement}
 use Rattle.verdict.proofs.generate.generated.Tie as tie

@@ -7,9 +7,9 @@ use mathlib.Core.List.{_++_, map}
 use denote.Ref.{now}
 use lib.ListN.{length, getD, take, drop, replicate, length-set}
 use Rattle.calculus.specs.Lists.{tabulate, padded}
-use Rattle.verdict.specs.Generating.{plain-nodes}
+use Rattle.verdict.specs.Code.Generating.{plain-nodes}
 use Rattle.calculus.specs.Lists.Laws.{in-take}
-use Rattle.verdict.specs.Generating.Reports.{numbers-more, numbers-all}
+use Rattle.verdict.specs.Code.Generating.Reports.{numbers-more, numbers-all}
 use Rattle.verdict.proofs.report.generators.Statement.{statement}
 use Rattle.verdict.proofs.report.generators.Tie as tie
 

@@ -7,8 +7,8 @@ use mathlib.Core.Bool.{not}
 use mathlib.Core.Logic.{⊎-elim}
 use lib.ListN.{length, take}
 use Rattle.verdict.specs.Bits.Laws.{mask-nil}
-use Rattle.verdict.specs.Generating.{missing-from}
-use Rattle.verdict.specs.Generating.Reports.{missing-more, missing-still}
+use Rattle.verdict.specs.Code.Generating.{missing-from}
+use Rattle.verdict.specs.Code.Generating.Reports.{missing-more, missing-still}
 use Rattle.verdict.proofs.report.ungenerated.Statement.{statement}
 use Rattle.verdict.proofs.report.ungenerated.Tie as tie
 

@@ -8,8 +8,8 @@ use mathlib.Core.Logic.{⊎-elim}
 use denote.Ref.{now}
 use lib.Dec.{ltb}
 use Rattle.verdict.specs.Bits.{bits}
-use Rattle.verdict.specs.Generating.{is-unranged}
-use Rattle.verdict.specs.Generating.Reports.{bits-start, bits-more, bits-still, unranged-found, unranged-other}
+use Rattle.verdict.specs.Code.Generating.{is-unranged}
+use Rattle.verdict.specs.Code.Generating.Reports.{bits-start, bits-more, bits-still, unranged-found, unranged-other}
 use Rattle.verdict.proofs.report.unranged.Statement.{statement}
 use Rattle.verdict.proofs.report.unranged.Tie as tie
 

@@ -13,10 +13,10 @@ use Rattle.calculus.specs.Sets as sets
 use Rattle.query.specs.Nodes.{kind, left, right, under, children}
 use Rattle.query.specs.Nodes.Laws.{children-not, children-exists, both-children}
 use Rattle.verdict.specs.Bits.{has}
-use Rattle.verdict.specs.Form.{IsForm}
-use Rattle.verdict.specs.Generating.{plain-bits, denied-bits, sets-of, plain-nodes, other-side}
-use Rattle.verdict.specs.Generating.Variables.{child-below}
-use Rattle.verdict.specs.Generating.Sources as order
+use Rattle.verdict.specs.Code.Form.{IsForm}
+use Rattle.verdict.specs.Code.Generating.{plain-bits, denied-bits, sets-of, plain-nodes, other-side}
+use Rattle.verdict.specs.Code.Generating.Variables.{child-below}
+use Rattle.verdict.specs.Code.Generating.Sources as order
 use borrow.Fn.Kinds.{In}
 use borrow.Fn.PlainCycle.{Measures, is, falls, and}
 use Rattle.verdict.proofs.source.denied.Reads as denied

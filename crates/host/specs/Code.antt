@@ -1,0 +1,2 @@
+-- What only the proofs of the code need: nobody has to believe it.
+pub mod Entry

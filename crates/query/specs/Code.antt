@@ -1,0 +1,3 @@
+-- What only the proofs of the code need: nobody has to believe it.
+pub mod Free
+pub mod Judging

@@ -1,0 +1,54 @@
+-- How the code opens and changes a list, part by part. Definitions only; the laws are in Change/.
+use Prim.Native.Nat.{ℕ}
+use mathlib.Core.Bool.{true, false, cond}
+use mathlib.Core.List.{List, []}
+use lib.ListN.{length}
+use lib.Dec.{T}
+use Rattle.calculus.specs.Generators.{columns}
+use Rattle.calculus.specs.Rows.{Result}
+use Rattle.causes.specs.Causes.{first-cause}
+use Rattle.tables.specs.declared.Record.{Record}
+use Rattle.tables.specs.declared.Store.{Store}
+use Rattle.tables.specs.declared.Changed.{Changed}
+use Rattle.tables.specs.Code.Change.{insertion, deletion}
+use Rattle.query.specs.declared.Query.{Query}
+use Rattle.query.specs.declared.Reading.{Reading}
+use Rattle.query.specs.Reading.{formula, read-of}
+use Rattle.answer.specs.Reply.{result-of}
+use Rattle.standing.specs.declared.View.{View}
+use Rattle.standing.specs.declared.Current.{Current}
+use Rattle.standing.specs.declared.Change.{Change}
+use Rattle.standing.specs.View.{stored, kept, mark, suits}
+use Rattle.standing.specs.Checks.{Kind, put, removal, is-over}
+use Rattle.standing.specs.Change.{begin-checks, ready-checks, turn-checks, turn-reply}
+
+-- Rows found anew: whether they are over 512, and else the rows and the mark.
+abbrev pub current : Result → Current
+current found =
+    cond
+    (is-over (length (kept found)))
+    (record { over = true; endless = false; rows = stored [] })
+    (record { over = false; endless = mark found; rows = stored (kept found) })
+
+-- The query as read, with the first of the causes 1 to 10.
+abbrev pub begun : Store → List ℕ → Reading
+begun s bs = record { answer = first-cause (begin-checks s bs); query = read-of (s .widths) bs .query; columns = read-of (s .widths) bs .columns }
+
+-- The same, and cause 12.
+abbrev pub readied : Store → View → List ℕ → Reading
+readied s v bs = record { answer = first-cause (ready-checks s v bs); query = read-of (s .widths) bs .query; columns = read-of (s .widths) bs .columns }
+
+-- The list suits the columns of an accepted query.
+abbrev pub Suits : View → Query → Type 0
+Suits v q = T (suits v (columns (formula q)))
+
+-- What the call of `tables` for a kind ensures.
+abbrev pub altered : Kind → Store → Record → Changed
+altered put s r = insertion s r
+altered removal s r = deletion s r
+
+-- The reply to a change that came to the store t.
+abbrev pub settled : Store → Store → View → Query → List ℕ → List ℕ → Change × (List ℕ × List ℕ)
+settled s t v q first second =
+    let found : Result = result-of t q in
+    turn-reply (first-cause (turn-checks v (columns (formula q)) found (length first) (length second))) s t v (columns (formula q)) found first second
