@@ -14,7 +14,7 @@ pub data Ap : Fmla → Type 0 where
   ap-rel : {r : ℕ} {ts : List Term} → Ap (rel r ts)
   ap-eq : {x p : ℕ} → Ap (eq x (con p))
 
--- 000: gen x Q G, "x is generated in Q by the formulas of G"; above each rule is 000's. 000's rule for a conjunction, "in Q1 or in Q2", is two rules here.
+-- 000: gen x Q G, x is generated in Q by the formulas of G; above each rule is 000's. 000's rule for a conjunction, "in Q1 or in Q2", is two rules here.
 -- 000's G is a set, and here a list: {} is [], {Q} is Q ∷ [], union is `_++_`, the image under a function is `map`. A list stands for the set of its members,
 -- and what follows from a list (a satisfied formula satisfies a member, a variable is generated) doesn't ask for order or repeats.
 pub data GenBy : ℕ → Fmla → List Fmla → Type 0 where
@@ -40,6 +40,6 @@ pub data GenBy : ℕ → Fmla → List Fmla → Type 0 where
   -- x ≠ y ==> gen x Q G ==> gen x (Exists y Q) (exists y ` G)
   gen-exists : {x y : ℕ} {φ : Fmla} {G : List Fmla} → x ≢ y → GenBy x φ G → GenBy x (exists y φ) (map (exists-if-free y) G)
 
--- 000: Gen x Q, "x is generated in Q", by some G.
+-- 000: Gen x Q, x is generated in Q by some G.
 abbrev pub Generated : ℕ → Fmla → Type 0
 Generated x φ = (G : List Fmla) × GenBy x φ G

@@ -103,7 +103,7 @@ leaves none = []
 leaves (some l) = l
 
 -- The number of a node that is an exists whose variable isn't generated in its child. The child is numbered from 0 here, wherever it stands: that changes the
--- leaves' numbers only, and whether there are any is all that is asked (`reflects-none` in the laws: "none" means "not generated", from any number on).
+-- leaves' numbers only, and all that is asked is whether the answer is "none" (`none-anywhere` in the laws).
 abbrev pub unranged-node : Node → List ℕ
 unranged-node (node n (truth b)) = []
 unranged-node (node n (rel r ts)) = []

@@ -1,4 +1,4 @@
--- Safe-range queries: 000, 2.9, and document 01's widening. Definitions only; the laws are in SafeRange/Laws.antt.
+-- Safe-range queries: 000, 2.9, and document 01's widening. Definitions only; the laws are in SafeRange/.
 use Prim.Native.Nat.{ℕ}
 use mathlib.Core.Path.{_≡_}
 use Rattle.calculus.specs.Sets.{In}

@@ -1,4 +1,4 @@
--- What the list program prints: document 01, "The list program and the host". Bytes are ASCII. Definitions only; the laws are in Text/Laws.antt.
+-- What the list program prints: document 01, "The list program and the host". Bytes are ASCII. Definitions only; the laws are in Text/.
 use Prim.Native.Nat.{ℕ, zero, suc, _+_, _/_, _%_, _*_, _-_}
 use mathlib.Core.Bool.{Bool, cond}
 use mathlib.Core.List.{List, [], _∷_, _++_}

@@ -1,4 +1,4 @@
--- The packed input: document 01, "The list program and the host", and what the calls over it reply. Definitions only; the laws are in Packed/Laws.antt.
+-- The packed input: document 01, "The list program and the host", and what the calls over it reply. Definitions only; the laws are in Packed/.
 use Prim.Native.Nat.{ℕ, _+_, _*_, _/_}
 use mathlib.Core.Path.{_≡_}
 use mathlib.Core.Bool.{Bool, false, not, _&&_}

@@ -1,4 +1,4 @@
--- Document 01's worked cases over the store S, the starred ones, and one for each of its traps that they leave open, as one table over packed queries.
+-- Document 01's worked cases over the store S, the starred ones, one for the trap that they leave open, and two in which 000 allows a choice, as one table over packed queries.
 -- Definitions only; that the table is right is Cases/Laws.antt.
 use Prim.Native.Nat.{ℕ}
 use mathlib.Core.Path.{_≡_}

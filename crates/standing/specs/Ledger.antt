@@ -71,7 +71,7 @@ Unfit ws t =
     let width : ℕ = getD ws (t .relation) 0 in
     (15 < t .relation) ⊎ (width ≡ 0) ⊎ ((i : ℕ) × (width ≤ i) × (getD (values-of t) i 0 ≢ 0))
 
--- Cause 17: over 512 rows, or a count past the greatest.
+-- Cause 17: over 512 rows, or a count past 18,446,744,073,709,551,615.
 abbrev pub Past : ℕ → Type 0
 Past n = 18446744073709551615 < n
 

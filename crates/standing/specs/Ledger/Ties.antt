@@ -1,5 +1,5 @@
 -- The ledger's judgements beside the engine's checks: the first cause that the ledger meets has the number of the first that the checks meet, the records after a
--- call are the engine's, and the rows joined and left are those that it selects. Neither side cites the other, so an error on either shows here.
+-- call are the engine's, and the rows joined and left are those that it selects. Neither side cites the other's judgements, so an error on either shows here.
 use Prim.Native.Nat.{ℕ, zero, suc, _*_, _^_, _≤_, _<_}
 use native.Mathlib.Omega.{arith}
 use mathlib.Core.Path.{_≡_, refl, sym, subst, subst⁻¹}

@@ -1,5 +1,5 @@
 -- The opening and the calls of a run. A store with three counts decides both a ledger and a list; a call takes both to those of the next store and counts, and
--- its reply is the report of the ledger as a function (`entry`), whose checks are the engine's once no cause before them is met.
+-- its reply is the report of the ledger as a function (`entry`), whose checks are the engine's where none of the causes 1 to 12 is met.
 use Prim.Native.Nat.{ℕ, _+_, _*_, _≤_}
 use native.Mathlib.Omega.{arith}
 use mathlib.Core.Path.{_≡_, refl, sym, ap, subst, subst⁻¹, _∙_}
