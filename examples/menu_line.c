@@ -3,11 +3,14 @@
 //
 // Usage: menu_line [FILE]. Without a file it reads standard input. The exit status is 0 where the lines are printed,
 // also that of a refusal; 1 where a file can't be read or the lines can't be written; 2 where the usage is another.
+#define _POSIX_C_SOURCE 200809L
 #include <errno.h>
+#include <fcntl.h>
 #include <inttypes.h>
 #include <stdio.h>
 #include <stdlib.h>
 #include <string.h>
+#include <unistd.h>
 
 #include "palmrummy.h"
 
@@ -22,6 +25,19 @@ static uint8_t answer[4 * NUMBERS];
 static int failed(const char *what) {
     fprintf(stderr, "menu_line: %s: %s\n", what, strerror(errno));
     return EXIT_FAILURE;
+}
+
+// Reads to the end of the file, or until the input is full: how many bytes, or -1 where a read fails. A read that brings
+// fewer bytes than asked is followed by another, and one that a signal interrupts is made again.
+static ssize_t read_input(int file) {
+    size_t length = 0;
+    while (length < sizeof input) {
+        ssize_t got = read(file, input + length, sizeof input - length);
+        if (got == 0) break;
+        if (got < 0 && errno != EINTR) return -1;
+        if (got > 0) length += (size_t)got;
+    }
+    return (ssize_t)length;
 }
 
 static void print_refusal(uint64_t reply) {
@@ -66,12 +82,12 @@ int main(int count, char **words) {
         return 2;
     }
     const char *name = count == 2 ? words[1] : "standard input";
-    FILE *file = count == 2 ? fopen(name, "rb") : stdin;
-    if (file == NULL) return failed(name);
-    size_t length = fread(input, 1, sizeof input, file);
-    if (ferror(file)) return failed(name);
-    if (file != stdin) fclose(file);
-    print_lines(length);
+    int file = count == 2 ? open(name, O_RDONLY) : STDIN_FILENO;
+    if (file < 0) return failed(name);
+    ssize_t length = read_input(file);
+    if (length < 0) return failed(name);
+    if (count == 2) close(file);
+    print_lines((size_t)length);
     if (fflush(stdout) != 0 || ferror(stdout)) return failed("standard output");
     return EXIT_SUCCESS;
 }

@@ -74,7 +74,7 @@ static inline uint32_t palmrummy_refusal_place(uint64_t reply) { return (uint32_
 
 // The causes that the entries can meet, with the numbers of document 01's table, in the order in which they are judged,
 // each over the whole input. 13 and 15 are judged together, record by record. The other causes of that table (11, 12,
-// 14, 16, 17, 19) belong to calls that are not here. A node as place is the lowest one at fault.
+// 14, 16, 17, 19) belong to calls that are not here. Where the place is a node, it is the lowest faulty one.
 //
 //   number  place   cause
 //   2       0       the input ends before its query, or is over 8,192 bytes
@@ -132,7 +132,7 @@ static inline bool palmrummy_has_node(uint32_t number) {
 #define PALMRUMMY_VERDICT_UNRANGED 40
 #define PALMRUMMY_VERDICT_FORM 48
 
-// How many bytes a packed query has, told from its header. For the form of a verdict, as it is always right.
+// How many bytes a packed query has, told from its header. Use it on the form of a verdict, whose header is always right.
 static inline size_t palmrummy_query_length(const uint8_t *query) {
     size_t header = (size_t)query[0] << 8 | query[1];
     return 2 + 4 * (header % 32) + 4 * (header / 32 % 128);
@@ -144,9 +144,10 @@ static inline size_t palmrummy_query_length(const uint8_t *query) {
 // variable, 4 bytes. Rows ascend strictly, by the first column, then by the second, and so on. Without columns a row
 // has no bytes: the reply is 1 where the query is satisfied and 0 where not.
 //
-// The room is the output's length / 4 numbers, rounded down, however long the output is: an answer is refused 18 just
-// where rows × columns exceed it. An endless answer and one without columns need no room. The list program's room is
-// 4,096 numbers: with an output of 16,384 bytes, what it refuses 18 is refused 18 here, and nothing else is.
+// The room is the output's length / 4 numbers, rounded down, however long the output is. An answer is refused 18 exactly
+// where rows × columns exceed the room. An endless answer and one without columns need no room. The list program's room
+// is 4,096 numbers: with an output of 16,384 bytes, 18 is returned for exactly the inputs that the list program refuses
+// 18.
 
 // The i-th number of an answer: with k columns, row r has the numbers k × r to k × r + k - 1.
 static inline uint32_t palmrummy_value(const uint8_t *out, size_t i) {
@@ -163,8 +164,8 @@ static inline uint32_t palmrummy_value(const uint8_t *out, size_t i) {
 // - An answer writes rows × columns × 4 bytes; the rest of the lent output is as it was.
 // - The reply and the bytes written depend on the input and the output's length, never on what was in the output.
 //
-// What the caller sees to:
-// - No pointer is null, also where its length is 0. Any alignment will do.
+// What the caller must ensure:
+// - Pointers must be non-null, even for length 0. Any alignment will do.
 // - The output is writable, overlaps nothing of the input, and nobody else reads or writes it during the call. Nobody
 //   writes the input during the call.
 // - There is stack for the call: docs/ARCHITECTURE.md says how much.

@@ -10,10 +10,14 @@ Fails where
 believe.py            checks
 believe.py --count    prints each believed file with its lines
 """
+import os
 import pathlib
 import re
 import sys
 
+import options
+
+HERE = pathlib.Path(__file__).resolve().parent.parent
 CRATES = pathlib.Path("crates")
 NOT_LISTED = {"Lib.antt", "Code.antt"}
 # A definition opens with one of these; anything else in a believed file would be a proof.
@@ -125,7 +129,7 @@ def statements(path):
         depth = len(line) - len(line.lstrip())
         while around and depth <= around[-1][0]:
             around.pop()
-        if line.lstrip().startswith("module "):
+        if line.lstrip().startswith("module ") or line.strip() == "mutual":
             around.append((depth, line))
             name = None
             continue
@@ -157,7 +161,11 @@ def check_theorems(problems, promises):
 
 
 def main():
-    if "--count" in sys.argv:
+    parser = options.Options(__doc__)
+    parser.add_argument("--count", action="store_true")
+    count = parser.parse_args().count
+    os.chdir(HERE)
+    if count:
         for path in sorted(believed()):
             print(f"{lines_of(path):4} {path}")
         return 0

@@ -8,7 +8,6 @@ catalogue.py --write          writes the packed inputs and expected outputs of e
 
 Exit status 1 where anything differs.
 """
-import argparse
 import math
 import os
 import pathlib
@@ -17,25 +16,35 @@ import re
 import struct
 import subprocess
 import sys
-import time
 
 HERE = pathlib.Path(__file__).resolve().parent.parent
 EXAMPLES = HERE / "examples"
 sys.path.insert(0, str(EXAMPLES))
 
+import account
 import answers
+import cases
 import lines
 import menu
-import trials
+import options
+import report
+import streams
 import verdicts
 
 FAILED = []
-MUCH = 100000  # bytes: more than the program ever writes
 
 
 def fail(name, text):
     FAILED.append(name)
     print(f"catalogue: {name}: {text}")
+
+
+def compare(name, text, expected, came, of_expected="expected", of_came="came"):
+    """Fails with a diff where the two are not the same. What menu.py refuses to pack is its words in place of bytes."""
+    if isinstance(expected, bytes) and isinstance(came, str):
+        fail(name, f"{text}: {of_came} says {came!r}")
+    elif came != expected:
+        fail(name, f"{text}\n{report.diff(expected, came, of_expected, of_came)}")
 
 
 # ---- the files of examples/
@@ -51,7 +60,7 @@ def examples():
 def write_examples():
     (EXAMPLES / "catalogue" / "store.txt").write_text(made_store())
     for _, store, query, binary, expected in examples():
-        binary.write_bytes(menu.pack(store.read_text(), query.read_text()))
+        binary.write_bytes(menu.pack(store.read_text(), query.read_text(), most_columns=16))
         expected.write_bytes(lines.lines(binary.read_bytes()))
 
 
@@ -60,21 +69,19 @@ def made_store():
 
 
 def attempt(pack, *texts):
-    """What menu.py packs, or its words where it refuses."""
+    """What menu.py packs, or its words where it refuses. Columns past the fourth are left to the engine: an example is of its refusing them."""
     try:
-        return pack(*texts)
+        return pack(*texts, most_columns=16)
     except menu.Refused as refused:
         return str(refused)
 
 
 def check_example(name, store, query, binary, expected):
     data = binary.read_bytes()
-    if attempt(menu.pack, store.read_text(), query.read_text()) != data:
-        fail(name, f"{binary.name} is not what menu.py packs from {store.name} and {query.name}")
-    if attempt(menu.pack_one, menu.show(data)[0]) != data:
-        fail(name, "what menu.py shows of it is packed otherwise")
-    if lines.lines(data) != expected.read_bytes():
-        fail(name, f"{expected.name} is not {lines.lines(data)!r}")
+    packs = attempt(menu.pack, store.read_text(), query.read_text())
+    compare(name, f"menu.py packs {store.name} and {query.name} otherwise", data, packs, binary.name, "menu.py pack")
+    compare(name, "what menu.py shows of it is packed otherwise", data, attempt(menu.pack_one, menu.show(data)[0]), binary.name, "menu.py show, and pack")
+    compare(name, "lines.py gives other lines", expected.read_bytes(), lines.lines(data), expected.name, "lines.py")
 
 
 # Document 01's packed query over its store S, and its output.
@@ -83,110 +90,18 @@ FIRST_OUTPUT = b"safe\ncolumns 0 1\nrow 9 3\nrows 1\n"
 
 
 def check_first(data, expected):
-    if lines.parts(data) != ([2, 1] + [0] * 14, [(0, 7, 3, 0, 0), (0, 9, 3, 0, 0), (1, 7, 0, 0, 0)], FIRST_QUERY):
-        fail("first", "input.bin is not document 01's")
-    if expected != FIRST_OUTPUT:
-        fail("first", "expected.txt is not document 01's")
+    wanted = packed([2, 1] + [0] * 14, [(0, 7, 3, 0, 0), (0, 9, 3, 0, 0), (1, 7, 0, 0, 0)], FIRST_QUERY)
+    compare("first", "input.bin is not document 01's", wanted, data, "document 01", "input.bin")
+    compare("first", "expected.txt is not document 01's", FIRST_OUTPUT, expected, "document 01", "expected.txt")
 
 
 def check_store():
-    if (EXAMPLES / "catalogue" / "store.txt").read_text() != made_store():
-        fail("catalogue", "store.txt is not what make_store.py writes")
-
-
-# ---- menu.py on texts that it refuses, and on the numbers that it gives to variables and constants
-
-STORE = "relation 0 joint 2\nrelation 1 weld 1\njoint 7 3\njoint 9 3\nweld 7\n"
-FORMS = [
-    # query text, another with the same packed query
-    ("joint(x, y) or weld(x) and not x = y", "joint(v0, v1) or (weld(v0) and (not (v0 = v1)))"),
-    ("weld(a) and weld(b) and weld(c)", "(r1(v0) and r1(v1)) and r1(v2)"),
-    ("exists z joint(x, z) and weld(z)", "(exists v0 joint(v1, v0)) and weld(v0)"),
-    ("exists z not exists y joint(z, y)", "exists v0 (not (exists v1 (joint(v0, v1))))"),
-    ("columns y x\njoint(x, y)", "r0(v1, v0)"),
-    ("columns x # and a bound one\nexists y joint(x, y) and not exists x weld(x)", "exists v1 joint(v0, v1) and not exists v0 weld(v0)"),
-    ("joint(x, v0) and joint(v2, y)", "joint(v1, v0) and joint(v2, v3)"),
-    ("x = 9 or\n\nx = 7 or x = 9", "v0 = 9 or (v0 = 7) or v0 = 0009"),
-    ("((true)) and\tnot(false)", "true and not false"),
-]
-REFUSED_QUERIES = [
-    ("", "line 1: the query ends where a formula should stand"),
-    ("weld(x) weld(y)", "line 1: 'weld' after the end of the formula"),
-    ("# a comment\nweld(x) and\nor", "line 3: 'or' where a formula should stand"),
-    ("(weld(x)\nor weld(y)", "line 2: the query ends before ')'"),
-    ("weld(x", "line 1: the query ends before ','"),
-    ("weld(x y)", "line 1: 'y' where ',' or ')' should stand"),
-    ("weld(x, y)", "line 1: weld has 1 values, and not 2"),
-    ("weld()", "line 1: weld has 1 values, and not 0"),
-    ("r1(a, b, c, d, e)", "line 1: r1 has at most 4 values, and not 5"),
-    ("seam(x)", "line 1: no relation seam in the store text"),
-    ("r16(x)", "line 1: no relation r16 in the store text"),
-    ("7 = x", "line 1: 7: an equality starts with its variable"),
-    ("x = and", "line 1: 'and' where a variable should stand"),
-    ("x - y", "line 1: '-' where '=' should stand"),
-    ("x", "line 1: the query ends before '='"),
-    ("exists 7 weld(x)", "line 1: '7' where a variable should stand"),
-    ("x = 4294967296", "line 1: 4294967296 is over 4294967295"),
-    ("x = " + "9" * 5000, f"line 1: {'9' * 20}.. is over 4294967295"),
-    ("columns x y\nweld(x)", "line 1: y is a column, and not free in the formula"),
-    ("\ncolumns x\njoint(x, y)", "line 2: y is free in the formula, and not a column"),
-    ("columns x x\nweld(x)", "line 1: x is a column twice"),
-    ("columns v0\nweld(v0)", "line 1: 'v0' can't name a column"),
-    ("weld(v16)", "line 1: v16: variables by number are v0 to v15"),
-    ("columns x\nweld(x) and v0 = 3", "line 1: x is variable 0, and the formula has v0"),
-    ("\n".join(f"weld(x{i}) and" for i in range(17)) + " true", "line 17: more than 16 variables, with x16"),
-    ("\n".join(f"x = {i} or" for i in range(17)) + " true", "line 17: more than 16 constants, with 16"),
-    ("not\n" * 63 + "not weld(x)", "line 1: more than 64 nodes"),
-    ("(" * 300 + "true" + ")" * 300, "line 1: more than 150 parentheses, nots and exists around each other"),
-    ("weld(\u00e4)", "line 1: '\u00e4' where a variable should stand"),
-]
-REFUSED_STORES = [
-    ("relation 0 joint", "line 1: a relation has a number, a name and a width"),
-    ("relation 16 joint 2", "line 1: relation 16 is over 15"),
-    ("relation 0 joint 5", "line 1: width 5 is not 1 to 4"),
-    ("relation 0 joint 0", "line 1: width 0 is not 1 to 4"),
-    ("relation 0 and 1", "line 1: 'and' can't name a relation"),
-    ("relation 0 r1 1", "line 1: r1 can't name relation 0"),
-    ("relation 0 r00 1", "line 1: r00 can't name relation 0"),
-    ("relation 0 a 1\nrelation 0 b 1", "line 2: relation 0 is given twice"),
-    ("relation 0 a 1\nrelation 1 a 1", "line 2: a already names relation 0"),
-    ("relation x a 1", "line 1: 'x' where a number should stand"),
-    ("# none yet\njoint 7 3", "line 2: no relation joint is given above"),
-    ("99 7 3", "line 1: no relation 99 is given above"),
-    ("relation 0 joint 2\n0 7", "line 2: 0 has 2 values, and not 1"),
-    ("relation 0 joint 2\njoint 7 -3", "line 2: '-3' where a number should stand"),
-    ("relation 0 joint 2\njoint 7 4294967296", "line 2: 4294967296 is over 4294967295"),
-    ("relation 0 a 1\n" + "\n".join(f"a {i}" for i in range(257)), "line 258: more than 256 different records"),
-    ("relation 0 a 1\n" + "a 1\n" * 500, "line 482: 481 records: an input is then over 8192 bytes"),
-]
-
-
-def check_menu():
-    """How many texts were tried."""
-    for one, other in FORMS:
-        if attempt(menu.pack, STORE, one) != attempt(menu.pack, STORE, other):
-            fail("menu.py", f"{one!r} and {other!r} are packed otherwise")
-    for store, query, wanted in [(STORE, q, f"the query, {w}") for q, w in REFUSED_QUERIES] + [(s, "true", f"the store, {w}") for s, w in REFUSED_STORES]:
-        told = attempt(menu.pack, store, query)
-        if told != wanted:
-            fail("menu.py", f"{query!r} over {store!r}: {told}, and not {wanted}")
-    run = lambda *words: subprocess.run([sys.executable, EXAMPLES / "menu.py", *words], capture_output=True, text=True, input="relation 0 a 1\nquery\n7 = x\n")
-    for words, status, end in [
-        (("pack", "-"), 2, "menu.py: -, line 3: 7: an equality starts with its variable\n"),
-        (("pack", EXAMPLES / "no-such-file", "-"), 2, "No such file or directory\n"),
-        (("show", "-"), 1, ""),
-        (("show", EXAMPLES / "first" / "input.bin"), 0, ""),
-        (("--help",), 0, ""),
-        ((), 2, ""),
-    ]:
-        done = run(*words)
-        if done.returncode != status or not done.stderr.endswith(end) or bool(done.stderr) != bool(end):
-            fail("menu.py", f"{' '.join(map(str, words))}: exit status {done.returncode}, {done.stderr!r}")
-    return len(FORMS) + len(REFUSED_QUERIES) + len(REFUSED_STORES)
+    compare("catalogue", "make_store.py writes another store.txt", (EXAMPLES / "catalogue" / "store.txt").read_text(), made_store(), "store.txt", "make_store.py")
 
 
 # ---- the named edges: document 01's worked cases, written as menu lines over S, and its limits
 
+STORE = "relation 0 joint 2\nrelation 1 weld 1\njoint 7 3\njoint 9 3\nweld 7\n"
 WORKED = [
     ("joint(x, y) and not weld(x)", "safe", "0 1", [(9, 3)]),
     ("not weld(x)", "unsafe", "0", None),
@@ -209,20 +124,20 @@ def output(safe, columns, rows):
 
 
 def packed(widths, records, query):
-    return bytes(widths) + struct.pack(">H", len(records)) + b"".join(map(trials.pack_record, records)) + query
+    return bytes(widths) + struct.pack(">H", len(records)) + b"".join(map(cases.pack_record, records)) + query
 
 
 def worked_cases():
-    for store, cases, where in [(STORE, WORKED, ""), ("relation 0 joint 2\nrelation 1 weld 1", WORKED_OVER_NONE, " over no records")]:
-        for text, safe, columns, rows in cases:
+    for store, worked, where in [(STORE, WORKED, ""), ("relation 0 joint 2\nrelation 1 weld 1", WORKED_OVER_NONE, " over no records")]:
+        for text, safe, columns, rows in worked:
             names = columns.replace("0", "x").replace("1", "y")
             yield text + where, menu.pack(store, f"columns {names}\n{text}"), output(safe, columns, rows)
 
 
 def limit_cases():
     """Name, input, and the output where a few words of document 01 or a reading of it say it."""
-    s, three, first = trials.WIDTHS_S, trials.THREE, FIRST_QUERY
-    words, r1 = trials.words_bytes, trials.R1
+    s, three, first = cases.WIDTHS_S, cases.THREE, FIRST_QUERY
+    words, r1 = cases.words_bytes, cases.R1
     no = lambda number, place=0: f"refused {number} {place}\n"
     yield "an empty input", b"", no(2)
     yield "17 bytes", bytes(17), no(2)
@@ -236,24 +151,24 @@ def limit_cases():
     yield "4: no nodes", packed(s, three, words([])), no(4)
     yield "5: a byte short", packed(s, three, first[:-1]), no(5)
     yield "5: a byte long", packed(s, three, first + b"\0"), no(5)
-    yield "6: kind 7", packed(s, three, trials.nodes_with(n1=0xE0000000)), no(6, 1)
-    yield "6: a low bit of an and", packed(s, three, trials.nodes_with(n3=0x80040001)), no(6, 3)
-    yield "6: an unused term", packed(s, three, trials.nodes_with(n1=r1 | 1 << 12)), no(6, 1)
+    yield "6: kind 7", packed(s, three, cases.nodes_with(n1=0xE0000000)), no(6, 1)
+    yield "6: a low bit of an and", packed(s, three, cases.nodes_with(n3=0x80040001)), no(6, 3)
+    yield "6: an unused term", packed(s, three, cases.nodes_with(n1=r1 | 1 << 12)), no(6, 1)
     yield "7: two trees", packed(s, three, words([r1, r1])), no(7, 0)
-    yield "7: a child twice", packed(s, three, trials.nodes_with(n3=trials.both(2, 2))), no(7, 0)
-    yield "8: constant 0 of none", packed(s, three, trials.nodes_with(n1=r1 | 16 << 17)), no(8, 1)
+    yield "7: a child twice", packed(s, three, cases.nodes_with(n3=cases.both(2, 2))), no(7, 0)
+    yield "8: constant 0 of none", packed(s, three, cases.nodes_with(n1=r1 | 16 << 17)), no(8, 1)
     yield "9: a relation absent, before 13", packed([2] + [0] * 15, three, first), no(9, 1)
     yield "9: another term count", packed([2, 2] + [0] * 14, [], first), no(9, 1)
-    yield "64 nodes", packed(s, three, words(trials.chain(64))), output("unsafe", "0", None)
-    yield "65 nodes", packed(s, three, words(trials.chain(65), header=1 << 12 | 65 << 5)), no(4)
-    sixteen = trials.joined_by(trials.either, [trials.equality(3, 16 + i) for i in range(16)])
+    yield "64 nodes", packed(s, three, words(cases.chain(64))), output("unsafe", "0", None)
+    yield "65 nodes", packed(s, three, words(cases.chain(65), header=1 << 12 | 65 << 5)), no(4)
+    sixteen = cases.joined_by(cases.either, [cases.equality(3, 16 + i) for i in range(16)])
     yield "16 constants", packed(s, [], words(sixteen, range(16, 0, -1))), output("safe", "3", [(i,) for i in range(1, 17)])
     yield "17 constants", packed(s, [], words(sixteen, range(17))), no(4)
     wide = [(3, 1, 2, 3, 4)]
-    yield "4 free variables", packed([0, 0, 0, 4] + [0] * 12, wide, words([trials.record(3, 3, 15, 7, 11)])), output("safe", "3 7 11 15", [(1, 3, 4, 2)])
-    five = trials.joined([trials.record(3, 3, 15, 7, 11), trials.equality(0, 3)])
+    yield "4 free variables", packed([0, 0, 0, 4] + [0] * 12, wide, words([cases.record(3, 3, 15, 7, 11)])), output("safe", "3 7 11 15", [(1, 3, 4, 2)])
+    five = cases.joined([cases.record(3, 3, 15, 7, 11), cases.equality(0, 3)])
     yield "5 free variables", packed([0, 0, 0, 4] + [0] * 12, wide, words(five)), no(10)
-    one, all_of_0 = [1] + [0] * 15, words([trials.record(0, 0)])
+    one, all_of_0 = [1] + [0] * 15, words([cases.record(0, 0)])
     many = [(0, v, 0, 0, 0) for v in range(300)]
     numbers = lambda n: output("safe", "0", [(v,) for v in range(n)])
     yield "256 records, backward", packed(one, many[255::-1], all_of_0), numbers(256)
@@ -263,26 +178,26 @@ def limit_cases():
     yield "13 before 15: the first in the list", packed(one, many[:256] + [(1, 0, 0, 0, 0), many[256]], all_of_0), no(13)
     yield "13: relation 16", packed(one, [(16, 0, 0, 0, 0)], all_of_0), no(13)
     yield "13: a value past the width", packed(one, [(0, 0, 1, 0, 0)], all_of_0), no(13)
-    yield "10 before 13", packed(one, [(1, 0, 0, 0, 0)], words(trials.joined([trials.equality(0, 1), trials.equality(2, 3), trials.equality(4, 4)]))), no(10)
-    longest = packed(one, many[:240] * 2, words([trials.record(0, 0), trials.no(0), trials.no(1)]))
+    yield "10 before 13", packed(one, [(1, 0, 0, 0, 0)], words(cases.joined([cases.equality(0, 1), cases.equality(2, 3), cases.equality(4, 4)]))), no(10)
+    longest = packed(one, many[:240] * 2, words([cases.record(0, 0), cases.no(0), cases.no(1)]))
     yield "8,192 bytes", longest, numbers(240)
     yield "8,193 bytes", longest + b"\0", no(2)
     ends = [(0, v, 0, 0, 0) for v in (4294967295, 0, 4294967294)]
     yield "the least and the greatest values", packed(one, ends, all_of_0), output("safe", "0", [(0,), (4294967294,), (4294967295,)])
-    yield "true over no relations", packed([0] * 16, [], words([trials.TRUE])), output("safe", "", [()])
-    yield "false over no relations", packed([0] * 16, [], words([trials.FALSE])), output("safe", "", [])
+    yield "true over no relations", packed([0] * 16, [], words([cases.TRUE])), output("safe", "", [()])
+    yield "false over no relations", packed([0] * 16, [], words([cases.FALSE])), output("safe", "", [])
     # 512 rows and 513; 4,096 numbers or just under, and just over, in two, three and four columns
     for sizes, more in [([16, 32], 0), ([16, 32], 1), ([32, 64], 0), ([32, 64], 1), ([13, 105, 1], 0), ([8, 9, 19], 0), ([8, 4, 4, 8], 0), ([5, 5, 41, 1], 0)]:
-        nodes = trials.joined([trials.record(i, i) for i in range(len(sizes))])
-        records = trials.products(sizes)
+        nodes = cases.joined([cases.record(i, i) for i in range(len(sizes))])
+        records = cases.products(sizes)
         if more:  # a row beside those of the product
-            nodes += [trials.record(4, 0, 1), trials.either(2, 3)]
+            nodes += [cases.record(4, 0, 1), cases.either(2, 3)]
             records.append((4, 7777, 7777, 0, 0))
         rows = math.prod(sizes) + more
         data = packed([1, 1, 1, 1, 2] + [0] * 11, records, words(nodes))
         yield f"{rows} rows of {len(sizes)} columns", data, no(18) if rows * len(sizes) > 4096 else None
-    endless = words([trials.record(0, 0), trials.record(1, 1), trials.either(0, 1)])
-    yield "endless before 18", packed([1, 1] + [0] * 14, trials.products([100, 100]), endless), output("unsafe", "0 1", None)
+    endless = words([cases.record(0, 0), cases.record(1, 1), cases.either(0, 1)])
+    yield "endless before 18", packed([1, 1] + [0] * 14, cases.products([100, 100]), endless), output("unsafe", "0 1", None)
 
 
 # ---- random inputs, valid and damaged
@@ -296,7 +211,7 @@ def cut(query):
 def placed(query, relations):
     """A query with its relations 0 to 3 given other numbers."""
     constants, nodes = cut(query)
-    return trials.words_bytes([w & ~(15 << 25) | relations[w >> 25 & 15] << 25 if w >> 29 == 1 else w for w in nodes], constants)
+    return cases.words_bytes([w & ~(15 << 25) | relations[w >> 25 & 15] << 25 if w >> 29 == 1 else w for w in nodes], constants)
 
 
 def valid_input(rng):
@@ -307,22 +222,22 @@ def valid_input(rng):
         widths[relation] = width
     kinds = [rng.randrange(4) for _ in range(rng.choice([0, 2, 5, 10, 20, 40]))]
     records = [(relations[k], *(rng.choice(values) if i <= k else 0 for i in range(4))) for k in kinds]
-    return packed(widths, records, placed(trials.random_query(rng, values), relations))
+    return packed(widths, records, placed(cases.random_query(rng, values), relations))
 
 
 def product_input(rng):
     """A product of relations of width 1, of about 4,096 numbers, its columns in any order."""
     sizes = rng.choice([[32, 64], [45, 46], [64, 33], [11, 11, 11], [8, 9, 19], [6, 6, 6, 5], [4, 8, 4, 8]])
-    nodes = trials.joined([trials.record(i, x) for i, x in enumerate(rng.sample(range(16), len(sizes)))])
-    records = trials.products(sizes)
-    return packed([1] * len(sizes) + [0] * (16 - len(sizes)), rng.sample(records, len(records)), trials.words_bytes(nodes))
+    nodes = cases.joined([cases.record(i, x) for i, x in enumerate(rng.sample(range(16), len(sizes)))])
+    records = cases.products(sizes)
+    return packed([1] * len(sizes) + [0] * (16 - len(sizes)), rng.sample(records, len(records)), cases.words_bytes(nodes))
 
 
 def crowded_input(rng):
     """About 256 different records, repeats among them, and now and then one of an absent relation."""
     records = [(0, v, v % 3, 0, 0) for v in range(rng.randrange(250, 263))]
     records += rng.choices(records, k=rng.randrange(100)) + [(rng.randrange(1, 20), 0, 0, 0, 0)] * (rng.random() < 0.3)
-    return packed([2] + [0] * 15, rng.sample(records, len(records)), trials.words_bytes([trials.record(0, 1, 0)]))
+    return packed([2] + [0] * 15, rng.sample(records, len(records)), cases.words_bytes([cases.record(0, 1, 0)]))
 
 
 def varied(rng, data):
@@ -340,7 +255,7 @@ def varied(rng, data):
         nodes[i] ^= 1 << 29
     elif kind == 6:
         nodes[i] = nodes[i] & ~(15 << 25) | term % 16 << 25
-    return packed(widths, rng.sample(records, len(records)), trials.words_bytes(nodes, constants))
+    return packed(widths, rng.sample(records, len(records)), cases.words_bytes(nodes, constants))
 
 
 def misnumbered(rng, query):
@@ -355,7 +270,7 @@ def misnumbered(rng, query):
         nodes[i] = nodes[i] & ~(63 << shift) | rng.choice([i, i + 1, max(i - 1, 0), 63, rng.randrange(len(nodes))]) << shift
     elif kind in (1, 2):
         nodes[i] |= rng.choice([16, 18, 19, 31]) << (rng.choice([17, 12, 7, 2]) if kind == 1 else 20)
-    return trials.words_bytes(nodes, constants, header)
+    return cases.words_bytes(nodes, constants, header)
 
 
 def damaged(rng, data):
@@ -417,33 +332,35 @@ def resolved(f, constants):
 
 def meaning(data):
     widths, records, query = lines.parts(data)
-    reading = trials.read(list(query), widths)
-    return widths, records, resolved(verdicts.formula(reading[3], len(reading[3]) - 1), reading[2])
+    reading = account.read(list(query), widths)
+    return "\n".join(map(str, [widths, *records, resolved(verdicts.formula(reading[3], len(reading[3]) - 1), reading[2])])) + "\n"
 
 
 def check_show(name, data, wanted):
     """Show finds a fault where the engine refuses, 18 apart; what it shows of others is packed with the same meaning."""
     text, sound = menu.show(data)
     if sound != (not wanted.startswith(b"refused") or wanted.startswith(b"refused 18")):
-        fail(name, f"menu.py shows {text!r}, and the output is {wanted!r}")
+        fail(name, f"menu.py finds {'no' if sound else 'a'} fault, and the first line of the output is {wanted.splitlines()[0].decode()!r}; it shows\n{text}")
     elif sound:
         again = attempt(menu.pack_one, text)
-        if isinstance(again, str) or meaning(again) != meaning(data) or attempt(menu.pack_one, menu.show(again)[0]) != again:
-            fail(name, f"menu.py shows {text!r}, which is packed otherwise")
+        if isinstance(again, str):
+            return fail(name, f"menu.py doesn't pack what it shows: {again}; it shows\n{text}")
+        compare(name, "packed again, what menu.py shows has another meaning", meaning(data), meaning(again), "the input", "packed again")
+        compare(name, "shown and packed twice, it differs", again, attempt(menu.pack_one, menu.show(again)[0]), "packed again", "packed twice")
 
 
 def check_answers(name, data):
     """The rows of lines.py beside those of answers.py, where its truth tables are small; whether they are."""
     widths, records, query = lines.parts(data)
-    _, columns, constants, nodes = trials.read(list(query), widths)
-    held = trials.fill(widths, records)[1].held()
+    _, columns, constants, nodes = account.read(list(query), widths)
+    held = account.fill(widths, records)[1].held()
     f = verdicts.formula(nodes, len(nodes) - 1)
     names = answers.variables(f)
     if (len(answers.known(f, constants, held)) + len(names)) ** len(names) > 200000:
         return False
     rows, others = lines.rows_of(columns, constants, nodes, held), answers.answer(columns, constants, nodes, held)
-    if rows != (None if others is None else list(map(tuple, others))):
-        fail(name, f"lines.py has {rows}, answers.py has {others}")
+    told = ["endless\n" if found is None else "".join(lines.line("row", *row) for row in found) for found in (rows, others)]
+    compare(name, "two accounts have other rows", *told, "lines.py", "answers.py")
     return True
 
 
@@ -451,7 +368,7 @@ def check_answers(name, data):
 
 def check_program(program, name, data, wanted):
     """The program's output, byte for byte; it never fails, and a refusal is one line."""
-    what = f" for {data.hex()}" if len(data) <= 400 else ""
+    what = f"\n  the input is {data.hex()}" if len(data) <= 400 else ""
     try:
         done = subprocess.run([program], input=data, capture_output=True, timeout=60)
     except subprocess.TimeoutExpired:
@@ -460,36 +377,20 @@ def check_program(program, name, data, wanted):
         fail(name, f"exit status {done.returncode}, standard error {done.stderr[:200]!r}{what}")
     elif b"refused" in done.stdout and not re.fullmatch(rb"refused [0-9]+ [0-9]+\n", done.stdout):
         fail(name, f"a refusal that is not one line: {done.stdout[:200]!r}{what}")
-    elif done.stdout != wanted:
-        fail(name, f"the program writes {done.stdout[:200]!r}, and not {wanted[:200]!r}{what}")
+    else:
+        compare(name, f"the program writes other lines{what}", wanted, done.stdout, "lines.py", "the program")
 
 
-def over_streams(program, parts=(), closed=None, **streams):
-    """What the program writes on both outputs over streams; the input comes part by part, and closed is a stream that it is started without."""
-    started = subprocess.Popen([program], **{"stdin": subprocess.PIPE, "stdout": subprocess.PIPE, "stderr": subprocess.PIPE, **streams},
-                               preexec_fn=None if closed is None else lambda: os.close(closed))
-    try:
-        for part in parts:
-            started.stdin.write(part)
-            started.stdin.flush()
-            time.sleep(0.02)
-        if started.stdin:
-            started.stdin.close()
-    except BrokenPipeError:  # the program ended before it had read all
-        pass
-    out = started.stdout.read(MUCH) if started.stdout else b""
-    err = started.stderr.read(MUCH) if len(out) < MUCH else b"far too much is written"
-    started.kill()
-    started.wait()
-    return out, err
+def over_streams(*words, **more):
+    """What the program writes on both outputs: its exit status is always 0."""
+    return streams.run(*words, **more)[1:]
 
 
-def failing_reads():
-    """The library of tests/reads.c."""
-    library = HERE / "target" / "tests" / "reads.so"
-    library.parent.mkdir(parents=True, exist_ok=True)
-    subprocess.run(["gcc", "-std=c11", "-Wall", "-Wextra", "-Werror", "-shared", "-fPIC", "-o", library, HERE / "tests" / "reads.c"], check=True)
-    return library
+def check_written(name, reply, wanted):
+    out, err = reply
+    if err:
+        fail(name, f"standard error has {err[:200]!r}")
+    compare(name, "the program writes other lines", wanted, out, "expected", "the program")
 
 
 def check_streams(program, data, wanted):
@@ -499,19 +400,18 @@ def check_streams(program, data, wanted):
     for name, reply in (("an input in parts", over_streams(program, [data[i:i + 13] for i in range(0, len(data), 13)])),
                         ("an input byte by byte", over_streams(program, [bytes([b]) for b in data]))):
         told += 1
-        if reply != (wanted, b""):
-            fail(name, f"the program writes {reply!r}, and not {wanted!r}")
-    library = failing_reads()
-    for letters, reply in (("iiriri", (wanted, b"")), ("i" * 300, (wanted, b"")), ("rre", None), ("e", None), ("riie", None)):
+        check_written(name, reply, wanted)
+    streams.failing_reads()
+    for letters, fails in (("iiriri", False), ("i" * 300, False), ("rre", True), ("e", True), ("riie", True)):
         told += 1
-        out, err = over_streams(program, [data], env={**os.environ, "LD_PRELOAD": str(library), "READS": letters})
-        if (out, err) != reply and (reply or out or not re.fullmatch(rb"standard input: [^\n]+\n", err)):
+        out, err = over_streams(program, [data], env=streams.with_reads(READS=letters))
+        if not fails:
+            check_written(f"reads {letters[:20]}", (out, err), wanted)
+        elif out or not re.fullmatch(rb"standard input: [^\n]+\n", err):
             fail(f"reads {letters[:20]}", f"the program writes {out!r}, and on standard error {err!r}")
     with open("/dev/zero", "rb") as zeros, open("/dev/full", "wb") as full:
-        reply = over_streams(program, stdin=zeros)
         told += 1
-        if reply != (b"refused 2 0\n", b""):
-            fail("an input without end", f"the program writes {reply!r}")
+        check_written("an input without end", over_streams(program, stdin=zeros), b"refused 2 0\n")
         directory = os.open("/", os.O_RDONLY)
         for name, stream, (out, err) in (("no standard input", b"standard input", over_streams(program, closed=0)),
                                          ("a directory for standard input", b"standard input", over_streams(program, stdin=directory)),
@@ -530,8 +430,8 @@ def check_input(program, name, data, expect=None):
         wanted = lines.lines(data)
     except lines.TooLarge:
         return None
-    if expect is not None and wanted != expect.encode():
-        fail(name, f"lines.py has {wanted!r}, and not {expect!r}")
+    if expect is not None:
+        compare(name, "lines.py gives other lines", expect.encode(), wanted, "expected", "lines.py")
     check_show(name, data, wanted)
     if program:
         check_program(program, name, data, wanted)
@@ -568,24 +468,23 @@ def check_random(program, number, stock):
 
 
 def main():
-    options = argparse.ArgumentParser(description=__doc__, formatter_class=argparse.RawDescriptionHelpFormatter)
-    options.add_argument("--random", type=int, default=0, metavar="N")
-    options.add_argument("--program", type=pathlib.Path, default=HERE / "target" / "bin" / "list", metavar="PATH")
-    options.add_argument("--write", action="store_true")
-    given = options.parse_args()
+    parser = options.Options(__doc__)
+    parser.add_argument("--random", type=options.number, default=0, metavar="N")
+    parser.add_argument("--program", type=pathlib.Path, default=HERE / "target" / "bin" / "list", metavar="PATH")
+    parser.add_argument("--write", action="store_true")
+    given = parser.parse_args()
     if given.write:
         write_examples()
     program = given.program.resolve() if given.program.is_file() else None
     if not program:
         fail("the program", f"{given.program} is not there")
     check_store()
-    texts = check_menu()
     stock = check_examples(program)
     edges = [*worked_cases(), *limit_cases()]
     for name, data, wanted in edges:
         check_input(program, name, data, wanted)
     streams = check_streams(program, stock[0], FIRST_OUTPUT) if program and stock else 0
-    ran = f"{len(stock)} examples, {texts} menu texts, {len(edges)} edges, {streams} ways to be read and written"
+    ran = f"{len(stock)} examples, {len(edges)} edges, {streams} ways to be read and written"
     if given.random:
         for length in range(len(stock[0])):  # 18 bytes and three records end at 69; then come the query's header and its rest
             cause = 2 if length < 69 else 3 if length < 71 else 5

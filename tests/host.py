@@ -1,6 +1,7 @@
 #!/usr/bin/env python3
 """The C side of the host's entries: builds examples/menu_line.c, tests/host_fuzz.c and tests/host_long.c over the
-static library, plain and with sanitizers, and runs them.
+static library, plain and with sanitizers, and runs them; menu_line also over reads that are interrupted, cut short or
+fail (reads.c).
 
 host.py                 makes the library first, by `rt staticlib host`
 host.py --library PATH  takes this library
@@ -10,13 +11,16 @@ host.py --seed N        other random inputs
 An example is an input X.bin below examples/ with its lines in X.expected, or input.bin with them in expected.txt. The
 last line says what ran and how much of it failed; the exit status is 1 where something did.
 """
-import argparse
 import concurrent.futures
 import os
 import pathlib
 import re
 import subprocess
 import sys
+
+import options
+import report
+import streams
 
 ROOT = pathlib.Path(__file__).resolve().parent.parent
 BUILT = ROOT / "target" / "host"
@@ -77,10 +81,16 @@ def build_cpp(library):
     return succeed("g++", "-std=c++11", *WARNINGS, "-o", program, source, library) or succeed(program)
 
 
+def output_fault(reply, expected):
+    """Nothing, where the program prints this and nothing on standard error."""
+    status, out, err = reply
+    if status or err:
+        return shown(*reply)
+    return None if out == expected else f"it prints other lines\n{report.diff(expected, out, 'expected', 'printed')}"
+
+
 def prints(command, expected, data=b""):
-    """The example program prints this, and nothing on standard error."""
-    reply = run(command, data)
-    return None if reply == (0, expected, b"") else f"{shown(*reply)}expected:\n{expected.decode(errors='replace')}"
+    return output_fault(run(command, data), expected)
 
 
 def declines(command, status, device=os.devnull):
@@ -88,6 +98,22 @@ def declines(command, status, device=os.devnull):
     with open(device, "wb") as out:
         reply = run(command, stdout=out)
     return None if reply[0] == status and reply[2].count(b"\n") == 1 else shown(*reply)
+
+
+def build_reads():
+    try:
+        streams.failing_reads()
+    except (OSError, subprocess.CalledProcessError) as error:
+        return f"{error}"
+
+
+def reads(program, parts, expected, words):
+    """Over an input that comes part by part, and over reads that are interrupted, cut short or fail: see reads.c. Where
+    nothing is expected, a read fails: nothing is printed, and a line on standard error says why."""
+    reply = streams.run(program, parts, pause=0.003, env=streams.with_reads(**words))
+    if expected is not None:
+        return output_fault(reply, expected)
+    return None if reply == (1, b"", b"menu_line: standard input: Input/output error\n") else shown(*reply)
 
 
 def fuzzes(command, inputs, seed, first=0):
@@ -155,6 +181,29 @@ def example_jobs(found):
         yield "a full device", declines, [program], 1, "/dev/full"
 
 
+def read_jobs(found):
+    """The example program on the shortest example: an interrupted read is made again, and a short one followed by
+    another; where a read fails, the status is 1."""
+    program = BUILT / "plain" / "menu_line"
+    for path, expected in sorted(found, key=lambda example: example[0].stat().st_size)[:1]:
+        data = path.read_bytes()
+        single = [data[i:i + 1] for i in range(len(data))]
+        yield "byte by byte", reads, program, single, expected, {}
+        yield "byte by byte, with signals", reads, program, single, expected, {"SIGNALS": "1"}
+        for letters in ("iiriri", "i" * 300, "r" * 100, "ri" * 100):
+            yield f"reads {letters[:8]}", reads, program, [data], expected, {"READS": letters}
+        for letters in ("e", "rre", "riie", "iie"):
+            yield f"reads {letters}", reads, program, [data], None, {"READS": letters}
+
+
+def usage_jobs():
+    for name in "host_fuzz", "host_long":
+        program = BUILT / "plain" / name
+        yield f"{name} --help", succeed, program, "--help"
+        for words in ["--rounds"], ["7x"], ["-7"], [""], [9 ** 40], [0, 1, 2, 3]:
+            yield f"{name} {' '.join(map(str, words))}", declines, [program, *words], 2
+
+
 def failures(pool, jobs):
     """Runs jobs at once: the number of those that fail. What went wrong is printed."""
     count = 0
@@ -166,24 +215,32 @@ def failures(pool, jobs):
     return count
 
 
+def given_words():
+    parser = options.Options(__doc__)
+    parser.add_argument("--library", type=pathlib.Path, metavar="PATH")
+    parser.add_argument("--rounds", type=options.number, default=20000, metavar="N")
+    parser.add_argument("--seed", type=options.number, default=1, metavar="N")
+    given = parser.parse_args()
+    if given.library and not given.library.is_file():
+        parser.error(f"{given.library} is not there")
+    return given
+
+
 def main():
-    parser = argparse.ArgumentParser(description=__doc__, formatter_class=argparse.RawDescriptionHelpFormatter)
-    parser.add_argument("--library", type=pathlib.Path)
-    parser.add_argument("--rounds", type=int, default=20000)
-    parser.add_argument("--seed", type=int, default=1)
-    options = parser.parse_args()
-    library = options.library.resolve() if options.library else LIBRARY
-    counts = options.rounds, options.rounds * 3 // 20, options.rounds // 100
+    given = given_words()
+    library = given.library.resolve() if given.library else LIBRARY
+    counts = given.rounds, given.rounds * 3 // 20, given.rounds // 100
     found = examples()
     with concurrent.futures.ThreadPoolExecutor(max_workers=os.cpu_count()) as pool:
-        failed = 0 if options.library else failures(pool, [("library", succeed, "rt", "staticlib", "host")])
+        failed = 0 if given.library else failures(pool, [("library", succeed, "rt", "staticlib", "host")])
         if not failed:
             builds = [(f"build {p}, {kind}", build, p, kind, library) for p in PROGRAMS for kind in KINDS]
-            failed = failures(pool, [*builds, ("C++", build_cpp, library)])
+            failed = failures(pool, [*builds, ("build reads", build_reads), ("C++", build_cpp, library)])
         if failed:
             found, counts = [], (0, 0, 0)
         else:
-            failed = failures(pool, [*fuzz_jobs(counts, options.seed), *long_jobs(), *example_jobs(found)])
+            jobs = [*fuzz_jobs(counts, given.seed), *long_jobs(), *usage_jobs(), *example_jobs(found), *read_jobs(found)]
+            failed = failures(pool, jobs)
             if not found:
                 print("host: no example has an expected output")
                 failed += 1

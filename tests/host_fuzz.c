@@ -9,6 +9,7 @@
 // Usage: host_fuzz [INPUTS [SEED [FIRST]]]. An input depends on the seed and on its own number only, so that
 // `host_fuzz 1 SEED NUMBER` tries one again. The exit status is 1 where a check fails.
 #define _DEFAULT_SOURCE
+#include <errno.h>
 #include <inttypes.h>
 #include <signal.h>
 #include <stdarg.h>
@@ -1044,17 +1045,24 @@ static bool met_all(void) {
     return met;
 }
 
+static void end_with_usage(FILE *to, int status) {
+    fputs("usage: host_fuzz [INPUTS [SEED [FIRST]]]\n", to);
+    exit(status);
+}
+
 static uint64_t word_or(int count, char **words, int i, uint64_t otherwise) {
     if (i >= count) return otherwise;
     char *end;
+    errno = 0;
     uint64_t number = strtoull(words[i], &end, 10);
-    if (*words[i] >= '0' && *words[i] <= '9' && *end == '\0') return number;
-    fprintf(stderr, "usage: host_fuzz [INPUTS [SEED [FIRST]]]\n");
-    exit(2);
+    if (*words[i] < '0' || *words[i] > '9' || *end != '\0' || errno != 0) end_with_usage(stderr, 2);
+    return number;
 }
 
 int main(int count, char **words) {
     static Input input;
+    if (count == 2 && strcmp(words[1], "--help") == 0) end_with_usage(stdout, 0);
+    if (count > 4) end_with_usage(stderr, 2);
     uint64_t inputs = word_or(count, words, 1, 20000), first = word_or(count, words, 3, 0);
     seed = word_or(count, words, 2, 1);
     at_input = &input;

@@ -3,6 +3,7 @@
 // with those written; with a byte too few the answer is refused 18, and no byte of the output is altered.
 //
 // Usage: host_long [MOST]. Only answers of at most so many numbers are tried. The exit status is 1 where a check fails.
+#include <errno.h>
 #include <inttypes.h>
 #include <stdio.h>
 #include <stdlib.h>
@@ -90,12 +91,28 @@ static void try_answer(size_t records, size_t columns, uint64_t most) {
     }
 }
 
+static void end_with_usage(FILE *to, int status) {
+    fputs("usage: host_long [MOST]\n", to);
+    exit(status);
+}
+
+static uint64_t word_or(int count, char **words, int i, uint64_t otherwise) {
+    if (i >= count) return otherwise;
+    char *end;
+    errno = 0;
+    uint64_t number = strtoull(words[i], &end, 10);
+    if (*words[i] < '0' || *words[i] > '9' || *end != '\0' || errno != 0) end_with_usage(stderr, 2);
+    return number;
+}
+
 int main(int count, char **words) {
+    if (count == 2 && strcmp(words[1], "--help") == 0) end_with_usage(stdout, 0);
+    if (count > 2) end_with_usage(stderr, 2);
     // Numbers on both sides of 2,048, 4,096, 8,192 and 65,536; and many more.
     static const size_t cases[][2] = {{256, 1}, {31, 2},  {32, 2}, {33, 2}, {45, 2}, {46, 2}, {64, 2}, {65, 2},
                                       {100, 2}, {181, 2}, {182, 2}, {256, 2}, {8, 3}, {9, 3},  {11, 3}, {12, 3},
                                       {27, 3},  {28, 3},  {40, 3},  {5, 4},   {6, 4}, {8, 4},  {11, 4}, {12, 4}};
-    uint64_t most = count > 1 ? strtoull(words[1], NULL, 10) : MOST;
+    uint64_t most = word_or(count, words, 1, MOST);
     for (size_t i = 0; i < sizeof cases / sizeof cases[0]; i++)
         try_answer(cases[i][0], cases[i][1], most < MOST ? most : MOST);
     printf("host long: %" PRIu64 " calls, %" PRIu64 " failed\n", calls, failed);

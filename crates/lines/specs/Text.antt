@@ -18,7 +18,7 @@ pub mod Digits
 pub mod Output
 pub mod First
 
--- Its room is 4,096 numbers.
+-- The room of the list program: 4,096 numbers.
 abbrev pub room : ℕ
 room = 4096
 
@@ -99,7 +99,7 @@ reply-text (Refused n p) q found = line word-refused (number (Refused n p) ∷ p
 abbrev pub text-of : List ℕ → List ℕ
 text-of bs = reply-text (first-cause (list-checks bs room)) (query-read bs) (result-in bs)
 
--- Its length, and the buffer with it at the front.
+-- What `print` hands back and leaves: the length of the output, and the buffer with it at the front.
 abbrev pub printed : List ℕ → List ℕ → ℕ × List ℕ
 printed bs out = (length (text-of bs), text-of bs ++ drop (length (text-of bs)) out)
 

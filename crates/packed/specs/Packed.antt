@@ -58,7 +58,7 @@ record-at bs i = record-from bs (18 + 17 * i)
 abbrev pub records-in : List ℕ → List Record
 records-in bs = tabulate (record-at bs) (count-in bs)
 
--- Then the query, which starts where the records end.
+-- The query of the input: the rest, which starts where the records end.
 abbrev pub query-in : List ℕ → List ℕ
 query-in bs = drop (18 + 17 * count-in bs) bs
 
@@ -76,7 +76,7 @@ record-checks ws ps (r ∷ rs) =
     ∷ check 15 (when (not (is-held r ps) && leb capacity (length ps)))
     ∷ record-checks ws (insert record-below r ps) rs
 
--- 2 before 1; then the causes by number, the query's before the records'.
+-- The checks of an input: 2 before 1; then the causes by number, the query's before the records'.
 abbrev pub input-checks : List ℕ → List Check
 input-checks bs =
     check 2 (when (not (is-whole bs)))
@@ -128,11 +128,11 @@ listing-reply write (Refused n p) q found buffer = (declined n p, buffer)
 abbrev pub listing-in : Writing (List ℕ) → ℕ → List ℕ → List ℕ → Listing × List ℕ
 listing-in write room bs buffer = listing-reply write (first-cause (list-checks bs room)) (query-read bs) (result-in bs) buffer
 
--- At the front of a list of numbers, with room for as many.
+-- The list of an input, its rows at the front of a list of numbers, with room for as many numbers.
 abbrev pub listing-of : List ℕ → List ℕ → Listing × List ℕ
 listing-of bs buffer = listing-in front (length buffer) bs buffer
 
--- At the front of bytes, four to a number.
+-- The list of an input, its rows at the front of bytes, four to a number, with room for a quarter of the bytes.
 abbrev pub byte-listing-of : List ℕ → List ℕ → Listing × List ℕ
 byte-listing-of bs buffer = listing-in front-bytes (length buffer / 4) bs buffer
 

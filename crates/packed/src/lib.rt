@@ -16,7 +16,7 @@ ghost use lib.ListN.{replicate};
 ghost use Rattle.packed.specs.Code.Packed.{refusal, input-of, listing-with};
 ghost use Rattle.packed.specs.Packed.{judged-of, declined, listing-of, byte-listing-of};
 
-// The most bytes of an input; those before its records; and those of a record.
+// The most bytes of an input; the bytes before its records; the bytes of a record.
 pub const LIMIT: usize = 8192;
 
 pub const HEAD: usize = 18;
@@ -44,7 +44,7 @@ pub struct Listing {
     pub rows: usize,
 }
 
-// So many zeros, for `find`.
+// The room of the list program, as zeros.
 pub fn room() -> [u32; ROOM]
     ensures { λ r. ⌜ r ≡ replicate 4096 0 ⌝ }
 {
@@ -161,7 +161,7 @@ pub fn find(bytes: &[u8], out: &mut [u32]) -> Listing
     list(found, verdict.safe, columns)
 }
 
-// The same with the rows in bytes, four to a number, high byte first: there is room for as many as the bytes have fours.
+// The list of an input's query, its rows as bytes, four to a number, high byte first, with room for a quarter of the bytes: the causes of `find`.
 pub fn find_bytes(bytes: &[u8], out: &mut [u8]) -> Listing
     ensures { λ l. ⌜ (l, now (out .exit)) ≡ byte-listing-of (now (bytes .entry)) (now (out .entry)) ⌝ }
 {

@@ -16,7 +16,7 @@ pub mod Size
 pub mod Order
 pub mod Laws
 
--- For relations of the widths ws.
+-- A query that the reader accepts for relations of the widths ws.
 pub record Accepted (ws : List ℕ) (q : Query) : Type 0 where
   pub widths-right : T (widths-fit ws)
   pub some-node : 1 ≤ q .«node_count»

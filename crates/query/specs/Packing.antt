@@ -82,7 +82,7 @@ pub record Packable (ws : List ℕ) (pool : Pool) (φ : Fmla) : Type 0 where
 
 -- ---- nodes in the order that packing writes
 
--- Of node i with these children: the last child is the node before it, and a left child ends where the right subtree starts.
+-- Node i, with these children, stands in packing's order: its last child is the node before it, and its left child ends where the right subtree starts.
 pub data Ordered (ns : List ℕ) (i : ℕ) : List ℕ → Type 0 where
   childless : Ordered ns i []
   after-child : {c : ℕ} → c + 1 ≡ i → Ordered ns i (c ∷ [])

@@ -70,7 +70,7 @@ header-checks ws bs =
     ∷ check 5 (when (not (eqb (length bs) (2 + 4 * count-of-constants bs + 4 * count-of-nodes bs))))
     ∷ []
 
--- Of the nodes ns, with k constants and relations of the widths ws.
+-- Causes 6 to 9 of the nodes ns, with k constants and relations of the widths ws.
 abbrev pub tree-checks : List ℕ → ℕ → List ℕ → List Check
 tree-checks ws k ns =
     check 6 (lowest (λ i. malformed (getD ns i 0)) (length ns))

@@ -54,7 +54,7 @@ fn bump(counts: &mut [u8; NODES], c: usize)
     counts[c] = counts[c] + 1;
 }
 
-// The uses by the child fields of one node more.
+// The uses counted so far, and those by the child fields of the node w.
 fn count(counts: &mut [u8; NODES], w: u32)
     requires { ⌜ ((c : ℕ) → c < 64 → getD (now counts) c 0 < 254) ⌝ }
     ensures { λ _. ⌜ now (counts .exit) ≡ counted-with (now (counts .entry)) w ⌝ }

@@ -30,7 +30,7 @@ pub mod Turn
 abbrev pub begin-checks : Store → List ℕ → List Check
 begin-checks s bs = store-checks s ++ read-checks (s .widths) bs
 
--- Cause 17.
+-- Cause 17 at an opening: over 512 rows.
 abbrev pub over-checks : Result → List Check
 over-checks found = check 17 (when (is-over (length (kept found)))) ∷ []
 
@@ -51,10 +51,11 @@ opened-of s bs =
 
 -- ---- a change
 
--- The rows that joined and those that left, where the list v comes to hold what is found.
+-- The rows that join where the list v comes to hold what is found.
 abbrev pub joining : View → Result → List Row
 joining v found = only-in (kept found) (rows-in v)
 
+-- The rows that leave where the list v comes to hold what is found.
 abbrev pub leaving : View → Result → List Row
 leaving v found = only-in (rows-in v) (kept found)
 
@@ -73,7 +74,7 @@ fronted rows buffer = numbers rows ++ drop (length (numbers rows)) buffer
 abbrev pub refusal : ℕ → ℕ → Store → View → Change
 refusal n p s v = record { answer = Refused n p; joined = 0; left = 0; store = s; view = v }
 
--- It leaves both buffers too; else the store is t, and the list holds what is found, with its counts added to.
+-- The reply to a change: the store is t, and the list holds what is found, with its counts added to. A refusal leaves the store, the list and both buffers.
 abbrev pub turn-reply : Answer → Store → Store → View → List ℕ → Result → List ℕ → List ℕ → Change × (List ℕ × List ℕ)
 turn-reply Done s t v cols found first second =
     let j : ℕ = length (joining v found) in

@@ -21,7 +21,7 @@ use Rattle.standing.specs.Checks.{Kind, put, removal}
 pub mod Ties
 pub mod Laws
 
--- What it keeps: widths, records (those held), rows, the endless mark and the three counts.
+-- What a ledger keeps: widths, records (those held), rows, the endless mark and the three counts.
 pub record Ledger : Type 0 where
   pub widths : List ℕ
   pub records : List Record
@@ -31,14 +31,14 @@ pub record Ledger : Type 0 where
   pub joined : ℕ
   pub left : ℕ
 
--- What it is fed of a call: kind, record, and the two buffers as lent.
+-- What a ledger is fed of a call: kind, record, and the two buffers as lent.
 pub record Call : Type 0 where
   pub kind : Kind
   pub tuple : Record
   pub first : List ℕ
   pub second : List ℕ
 
--- What it answers: number and place of the first cause met; with none 0 and 0, and both numbers of rows, here with the rows that joined and left.
+-- What a ledger answers to a call: number and place of the first cause met; with none 0 and 0, and the rows that joined and left.
 pub record Report : Type 0 where
   pub number : ℕ
   pub place : ℕ
@@ -47,14 +47,14 @@ pub record Report : Type 0 where
 
 -- ---- what it finds
 
--- Its rows are all that satisfy the query over the records, variables and quantifiers ranging over all whole numbers, each once, ascending; if infinitely
--- many do, it marks endless and keeps none.
+-- The rows and the mark of a ledger: all rows that satisfy the query over the records, each once, ascending, where variables and quantifiers range over all
+-- whole numbers; or, where infinitely many do, the mark and no row.
 abbrev pub Found : Query → List ℕ → List Record → Bool → List Row → Type 0
 Found q ws records true rows = Endless (pool q) (map (fact-of ws) records) (formula q) (columns (formula q)) × (rows ≡ [])
 Found q ws records false rows =
     Ascending row-below rows × ((w : Row) → In w rows ↔ RowSat (pool q) (map (fact-of ws) records) (formula q) (columns (formula q)) w)
 
--- At the opening its widths and records are the store's; the count of rows at opening is the number kept, the others are 0.
+-- A ledger at the opening: its widths and records are the store's; the count of rows at opening is the number kept, the others are 0.
 pub record Opens (q : Query) (s : Store) (l : Ledger) : Type 0 where
   pub widths-are : l .widths ≡ s .widths
   pub records-are : l .records ≡ held s
@@ -85,7 +85,7 @@ cause number P later a = (P × (a ≡ number)) ⊎ (¬ P × later a)
 abbrev pub no-cause : ℕ → Type 0
 no-cause a = a ≡ 0
 
--- 13 to 16 are judged by its widths and records. A put meets 13, 14 and 15, a removal 13 and 16.
+-- Causes 13 to 16, judged by the ledger's widths and records. A put meets 13, 14 and 15, a removal 13 and 16.
 abbrev pub RecordCause : Ledger → Kind → Record → ℕ → Type 0
 RecordCause l put t =
     cause 13 (Unfit (l .widths) t)
@@ -97,7 +97,7 @@ RecordCause l removal t =
     (cause 16 (¬ In t (l .records))
     no-cause)
 
--- 17 to 19 by what it would come to, n, the rows of k columns that joined and left, and the lengths of the buffers.
+-- Causes 17 to 19, judged by the renewed ledger n, the rows of k columns that joined and left, and the lengths of the buffers.
 abbrev pub ReportCause : Ledger → ℕ → List Row → List Row → Call → ℕ → Type 0
 ReportCause n k joined left c =
     cause 17 (Over n)
@@ -107,7 +107,7 @@ ReportCause n k joined left c =
 
 -- ---- a put or removal
 
--- r is a record once t is added, or taken out.
+-- The record r is among the records once t is added to them, or taken out of them.
 abbrev pub Among : Kind → Record → List Record → Record → Type 0
 Among put t records r = In r records ⊎ (r ≡ t)
 Among removal t records r = In r records × (r ≢ t)
@@ -116,8 +116,8 @@ Among removal t records r = In r records × (r ≢ t)
 abbrev pub Difference : List Row → List Row → List Row → Type 0
 Difference xs ys rows = Ascending row-below rows × ((w : Row) → In w rows ↔ (In w xs × ¬ In w ys))
 
--- The record is added or taken out: the records ascend, and are exactly these. Rows and mark are found anew as at the opening. Rows joined are kept now and not
--- before, rows left before and not now; their numbers are added to the counts.
+-- The ledger n after a call: t is added to the records or taken out, and they ascend; rows and mark are found anew as at the opening. Rows joined are kept now
+-- and not before, rows left before and not now; their numbers are added to the counts.
 pub record Renews (q : Query) (l : Ledger) (c : Call) (joined left : List Row) (n : Ledger) : Type 0 where
   pub widths-are : n .widths ≡ l .widths
   pub records-ascend : Ascending record-below (n .records)
@@ -129,10 +129,11 @@ pub record Renews (q : Query) (l : Ledger) (c : Call) (joined left : List Row) (
   pub joined-is : n .joined ≡ l .joined + length joined
   pub left-is : n .left ≡ l .left + length left
 
--- The answer to a call that meets a cause, place 0; and to one that meets none.
+-- The answer to a call that meets a cause: its number, place 0.
 abbrev pub refuses : ℕ → Report
 refuses number = record { number = number; place = 0; joined = []; left = [] }
 
+-- The answer to a call that meets no cause, with the rows that joined and left.
 abbrev pub reports : List Row → List Row → Report
 reports joined left = record { number = 0; place = 0; joined = joined; left = left }
 

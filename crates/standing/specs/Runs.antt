@@ -43,7 +43,7 @@ pub record Agrees (c : Call) (l : Report) (r : Reply) : Type 0 where
   pub first-length : length (r .1 .0) ≡ length (c .first)
   pub second-length : length (r .1 .1) ≡ length (c .second)
 
--- All replies of a run are, in order.
+-- Every reply of a run agrees with the ledger's report of the same call, in order.
 pub data Agree : List Call → List Report → List Reply → Type 0 where
   none : Agree [] [] []
   also : {c : Call} {cs : List Call} {l : Report} {ls : List Report} {r : Reply} {rs : List Reply} → Agrees c l r → Agree cs ls rs → Agree (c ∷ cs) (l ∷ ls) (r ∷ rs)

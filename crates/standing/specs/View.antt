@@ -32,10 +32,11 @@ line-at vs i = getD vs (4 * i) 0 ∷ getD vs (4 * i + 1) 0 ∷ getD vs (4 * i + 
 unfoldable pub lines : List ℕ → List Row
 lines vs = tabulate (line-at vs) max-rows
 
--- Those of the rows held, and those past the count.
+-- The row places of the rows held.
 abbrev pub lines-held : Rows → List Row
 lines-held r = take (r .count) (lines (r .values))
 
+-- The row places past the count.
 abbrev pub lines-unused : Rows → List Row
 lines-unused r = drop (r .count) (lines (r .values))
 
@@ -49,18 +50,19 @@ stored rows = record { values = union-of (padded max-columns 0) (padded max-rows
 
 -- ---- a standing list
 
--- Its columns, and the rows that it holds.
+-- The columns of a list.
 abbrev pub columns-in : View → List ℕ
 columns-in v = variables-in (v .columns)
 
+-- The rows that a list holds.
 abbrev pub rows-in : View → List Row
 rows-in v = map (take (v .columns .count)) (lines-held (v .rows))
 
--- The layout. At most four columns, ascending, and unused places of columns zero;
+-- The layout of a list's columns: at most four, each below 16, ascending, and unused places zero.
 abbrev pub columns-fit : View → Bool
 columns-fit v = leb (v .columns .count) max-columns && all-of (λ c. ltb c 16) (columns-in v) && is-ascending ltb (columns-in v) && ends (v .columns .count) (v .columns .variables)
 
--- at most 512 rows, strictly ascending, and unused places of rows and values zero;
+-- The layout of a list's rows: at most 512, strictly ascending, and unused places of rows and values zero.
 abbrev pub rows-fit : View → Bool
 rows-fit v =
     leb (v .rows .count) max-rows
@@ -68,24 +70,25 @@ rows-fit v =
     && all-of (ends (v .columns .count)) (lines-held (v .rows))
     && all-of (ends 0) (lines-unused (v .rows))
 
--- no rows in an endless list; and rows at opening plus joined are left plus rows held, as whole numbers.
+-- The layout of a list's mark and counts: an endless list has no rows; rows at opening plus joined are left plus rows held, as whole numbers.
 abbrev pub counts-fit : View → Bool
 counts-fit v = not (v .endless && ltb 0 (v .rows .count)) && eqb (v .opening + v .joined) (v .left + v .rows .count)
 
 abbrev pub view-fits : View → Bool
 view-fits v = columns-fit v && rows-fit v && counts-fit v
 
--- In the layout, and with the columns of the query.
+-- A list is in the layout and has the columns of the query. Where not, cause 12 is met.
 abbrev pub suits : View → List ℕ → Bool
 suits v cols = view-fits v && same-list (columns-in v) cols
 
 -- ---- the list of what a query answers
 
--- The rows that a list keeps of it, and its mark: an endless one keeps none.
+-- The rows that a list keeps of a result: none of an endless one.
 abbrev pub kept : Result → List Row
 kept endless = []
 kept (listed rows) = rows
 
+-- The endless mark of the list of a result.
 abbrev pub mark : Result → Bool
 mark endless = true
 mark (listed rows) = false

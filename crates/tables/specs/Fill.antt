@@ -20,7 +20,7 @@ pub mod Laws
 abbrev pub refused-filling : ℕ → ℕ → Changed
 refused-filling n p = record { answer = Refused n p; store = no-store }
 
--- What goes on where nothing is refused.
+-- A filling that goes on with c where nothing is refused.
 abbrev pub unless-refused : Answer → Changed → Changed
 unless-refused Done c = c
 unless-refused (Refused n p) c = refused-filling n p

@@ -54,7 +54,7 @@ facts s = map (fact-of (s .widths)) (held s)
 abbrev pub in-layout : Store → Bool
 in-layout s = leb (s .count) capacity && all-of (fits (s .widths)) (held s) && is-ascending record-below (held s) && all-of is-blank (unused s)
 
--- The same, as what holds rather than a test (`reflects-layout` in the laws).
+-- The layout as a proposition; `reflects-layout` in the laws: the test decides it.
 pub record Layout (s : Store) : Type 0 where
   pub count-fits : s .count ≤ 256
   pub all-fit : (r : Record) → In r (held s) → T (fits (s .widths) r)

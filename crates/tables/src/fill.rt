@@ -63,7 +63,7 @@ pub fn collect(
     let answer = f.answer;
     let count = s.count;
     if let Answer::Refused(_, _) = answer {
-        return f;
+        return f; // stays refused
     }
     if PLACES < count {
         return Changed {

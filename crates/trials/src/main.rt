@@ -16,6 +16,8 @@ mod lend;
 mod runs;
 
 ghost use Prim.Native.Nat.{_≤_, _<_};
+ghost use mathlib.Core.Path.{_≡_};
+ghost use Rattle.answer.specs.Reply.{found-of};
 use answer::Found;
 use causes::Answer;
 use query::Columns;
@@ -132,27 +134,40 @@ fn refused(number: u8, place: u8) {
     word(place as u64);
 }
 
+// The parts of a record.
+fn parts(r: Record) -> [u32; 5] {
+    [wide(r.relation), r.first, r.second, r.third, r.fourth]
+}
+
 fn list_record(r: Record) {
+    let numbers = parts(r);
     io::write_all(1, b" |");
-    word(r.relation as u64);
-    word(r.first as u64);
-    word(r.second as u64);
-    word(r.third as u64);
-    word(r.fourth as u64);
+    list_numbers(&numbers, 5, false);
 }
 
 fn mixed(h: u64, v: u32) -> u64 {
     h % 1000003 * 31 + v as u64
 }
 
+// A sum that goes on from h over the numbers from a place on.
+fn mixed_from(h: u64, s: &[u32], from: usize) -> u64 {
+    let mut sum = h;
+    let mut i = from;
+    while i < s.len() {
+        sum = mixed(sum, s[i]);
+        i += 1;
+    }
+    sum
+}
+
+// A sum over the numbers from a place on.
+fn sum_from(s: &[u32], from: usize) -> u64 {
+    mixed_from(7, s, from)
+}
+
 fn mixed_record(h: u64, r: Record) -> u64 {
-    mixed(
-        mixed(
-            mixed(mixed(mixed(h, wide(r.relation)), r.first), r.second),
-            r.third,
-        ),
-        r.fourth,
-    )
+    let numbers = parts(r);
+    mixed_from(h, &numbers, 0)
 }
 
 // A sum over all record places and widths, which tells stores apart.
@@ -181,9 +196,15 @@ fn list_store(s: Store) {
     word(count as u64);
     io::write_all(1, b" sum");
     word(sum_of(s));
-    if 4 < count {
-        return;
+    if count <= 4 {
+        list_records(relations, values, count);
     }
+}
+
+// The first records of these places.
+fn list_records(relations: [u8; 256], values: [u32; 1024], count: usize)
+    requires { ⌜ count ≤ 4 ⌝ }
+{
     let mut i = 0;
     while i < count {
         list_record(tables::place::read(&relations, &values, i));
@@ -218,18 +239,26 @@ fn list_numbers(s: &[u32], n: usize, as_words: bool) {
     }
 }
 
-fn list_query(q: Query, c: Columns) {
-    let constants = q.constants;
-    let nodes = q.nodes;
+// The places of the columns.
+fn variables_of(c: Columns) -> [u32; 4] {
     let variables = c.variables;
-    let columns = [
+    [
         wide(variables[0]),
         wide(variables[1]),
         wide(variables[2]),
         wide(variables[3]),
-    ];
+    ]
+}
+
+fn list_columns(c: Columns) {
+    let columns = variables_of(c);
     io::write_all(1, b" accepted columns");
     list_numbers(&columns, c.count, false);
+}
+
+fn list_query(q: Query) {
+    let constants = q.constants;
+    let nodes = q.nodes;
     io::write_all(1, b" constants");
     list_numbers(&constants, q.constant_count, false);
     io::write_all(1, b" nodes");
@@ -246,9 +275,30 @@ fn run_query(body: &[u8]) {
         Answer::Done => {
             let q = r.query;
             let c = r.columns;
-            list_query(q, c);
+            list_columns(c);
+            list_query(q);
         }
         Answer::Refused(number, place) => refused(number, place),
+    }
+}
+
+fn list_generators(generators: [u64; 4]) {
+    io::write_all(1, b" generators");
+    hex_long(generators[0]);
+    hex_long(generators[1]);
+    hex_long(generators[2]);
+    hex_long(generators[3]);
+}
+
+fn list_reports(ungenerated: u64, unranged: u64, safe: bool) {
+    io::write_all(1, b" ungenerated");
+    hex_long(ungenerated);
+    io::write_all(1, b" unranged");
+    hex_long(unranged);
+    if safe {
+        io::write_all(1, b" safe");
+    } else {
+        io::write_all(1, b" unsafe");
     }
 }
 
@@ -257,21 +307,10 @@ fn list_verdict(v: Verdict) {
     let form = v.form;
     let columns = v.columns;
     let generators = v.generators;
-    list_query(form, columns);
-    io::write_all(1, b" generators");
-    hex_long(generators[0]);
-    hex_long(generators[1]);
-    hex_long(generators[2]);
-    hex_long(generators[3]);
-    io::write_all(1, b" ungenerated");
-    hex_long(v.ungenerated as u64);
-    io::write_all(1, b" unranged");
-    hex_long(v.unranged);
-    if v.safe {
-        io::write_all(1, b" safe");
-    } else {
-        io::write_all(1, b" unsafe");
-    }
+    list_columns(columns);
+    list_query(form);
+    list_generators(generators);
+    list_reports(v.ungenerated as u64, v.unranged, v.safe);
 }
 
 fn run_verdict(body: &[u8]) {
@@ -342,17 +381,6 @@ fn lent(room: usize) -> [u32; LENT]
     numbers
 }
 
-// A sum over the numbers from a place on.
-fn sum_from(s: &[u32], from: usize) -> u64 {
-    let mut h = 7;
-    let mut i = from;
-    while i < s.len() {
-        h = mixed(h, s[i]);
-        i += 1;
-    }
-    h
-}
-
 // How many numbers so many rows have, for at most 65,536 rows and four columns.
 fn numbers_of(rows: usize, columns: usize) -> usize {
     let n = capped(rows);
@@ -386,13 +414,24 @@ fn list_found(f: Found, columns: usize, numbers: &[u32]) {
     word(sum_from(numbers, end));
 }
 
-// The rows have as many columns as the reader finds.
-fn answer_in(s: Store, bytes: &[u8], wanted: bool, out: &mut [u32]) {
-    let widths = s.widths;
+// How many columns a query has: as many as the reader finds.
+fn width_of(bytes: &[u8], widths: [u8; 16]) -> usize {
     let reading = query::read(bytes, widths);
     let columns = reading.columns;
-    let f = answer::find(s, bytes, wanted, out);
-    list_found(f, columns.count, out);
+    columns.count
+}
+
+fn find(s: Store, bytes: &[u8], wanted: bool, out: &mut [u32]) -> Found
+    ensures { λ f. ⌜ (f, now (out .exit)) ≡ found-of s (now (bytes .entry)) wanted (now (out .entry)) ⌝ }
+{
+    answer::find(s, bytes, wanted, out)
+}
+
+fn answer_in(s: Store, bytes: &[u8], wanted: bool, out: &mut [u32]) {
+    let widths = s.widths;
+    let columns = width_of(bytes, widths);
+    let f = find(s, bytes, wanted, out);
+    list_found(f, columns, out);
 }
 
 fn run_answer(body: &[u8]) {

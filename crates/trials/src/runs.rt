@@ -65,13 +65,10 @@ fn view_of(s: &[u8], from: usize) -> View
 }
 
 fn list_columns(c: Columns) {
-    let variables = c.variables;
+    let variables = crate::variables_of(c);
     io::write_all(1, b" columns");
     crate::word(c.count as u64);
-    crate::word(variables[0] as u64);
-    crate::word(variables[1] as u64);
-    crate::word(variables[2] as u64);
-    crate::word(variables[3] as u64);
+    crate::list_numbers(&variables, 4, false);
 }
 
 fn list_view(v: View) {

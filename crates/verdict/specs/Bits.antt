@@ -11,12 +11,12 @@ pub mod Laws
 abbrev pub bit : Bool → ℕ
 bit b = cond b 1 0
 
--- Of the numbers below k, those that pass the test.
+-- The set of the numbers below k that pass the test, as a number of k bits.
 unfoldable pub bits : (ℕ → Bool) → ℕ → ℕ
 bits f zero = 0
 bits f (suc k) = bits f k * 2 + bit (f k)
 
--- The members below k.
+-- The set of the members of a list that are below k, as a number of k bits.
 abbrev pub mask : ℕ → List ℕ → ℕ
 mask k xs = bits (λ n. member n xs) k
 

@@ -5,6 +5,6 @@ use Rattle.query.specs.Reading.{pool, formula, query-of}
 use Rattle.query.specs.Packing.{words}
 pub mod Laws
 
--- The same constants, and the nodes of the propagated formula: left subtree first, then right, then the parent.
+-- The form of a query: its constants, and the nodes of its propagated formula, left subtree first, then right, then the parent.
 abbrev pub form-of : Query → Query
 form-of q = query-of (pool q) (words (cp (formula q)) 0)

@@ -54,6 +54,6 @@ abbrev pub verdict-reply : Answer → Query → Verdict
 verdict-reply Done q = judged q
 verdict-reply (Refused n p) q = refusal n p
 
--- For relations of the widths ws, to the bytes bs: causes 1 and 3 to 10.
+-- The reply to the query in the bytes bs, for relations of the widths ws: causes 1 and 3 to 10.
 abbrev pub verdict-of : List ℕ → List ℕ → Verdict
 verdict-of ws bs = verdict-reply (read-of ws bs .answer) (read-of ws bs .query)

@@ -1,29 +1,37 @@
--- The entry meets its contract: what the change told, as one number.
+-- The entry meets its contract: what the change told, as one number. At most 512 rows join and leave, so the number has its 64 bits.
+use Prim.Native.Nat.{_≤_}
+use native.Mathlib.Omega.{arith}
 use borrow.Author.Needs.{needs}
-use Rattle.bench.specs.Entry.Laws.{change-refused, change-done}
+use mathlib.Core.Path.{_≡_, subst⁻¹, _∙_}
+use lib.ListN.{length}
+use Rattle.standing.specs.Checks.{kind-of}
+use Rattle.standing.specs.Change.Calls.{FewTold, few-told}
+use Rattle.bench.specs.Entry.Laws.{change-over, change-refused, change-done}
 use Rattle.bench.proofs.palmrummy_change.Statement.{statement}
 use Rattle.bench.proofs.palmrummy_change.Tie as tie
 
-element-copy-out-result : tie.Need-element-copy-out-result
-element-copy-out-result c = search needs
+-- The list made of the arrays has four places for columns.
+places : (v : tie.After-view-of) → length (v .view-of .result .columns .variables) ≡ 4
+places v = search needs
 
-element-copy-out-result-2 : tie.Need-element-copy-out-result-2
-element-copy-out-result-2 c = search needs
+-- At most 512 rows joined, and at most 512 left.
+abbrev changed : tie.After-enum-told → tie.After-change
+changed c = c .before .before .before .before .before .before
 
-element-copy-out-result-3 : tie.Need-element-copy-out-result-3
-element-copy-out-result-3 c = search needs
+few : (c : tie.After-enum-told) → (changed c .change .result .joined ≤ 512) × (changed c .change .result .left ≤ 512)
+few c =
+    let r = changed c .before .before .before in
+    let s = r .before .before .before .before .before .before .args in
+    subst⁻¹ FewTold (changed c .change .ensures) (few-told (kind-of (s .removal)) (r .before .before .store-of .result) (r .before .view-of .result) (s .bytes .now) (r .record-of .result) (s .joined .now) (s .left .now) (places (r .before)))
 
-element-copy-out-t42 : tie.Need-element-copy-out-t42
-element-copy-out-t42 c = search needs
+store-of-requires : tie.Need-store-of-requires
+store-of-requires c κs = search needs
 
-element-copy-out-t45 : tie.Need-element-copy-out-t45
-element-copy-out-t45 c = search needs
+view-of-requires : tie.Need-view-of-requires
+view-of-requires c κs = search needs
 
-element-copy-out-t48 : tie.Need-element-copy-out-t48
-element-copy-out-t48 c = search needs
-
-element-copy-out-t51 : tie.Need-element-copy-out-t51
-element-copy-out-t51 c = search needs
+record-of-requires : tie.Need-record-of-requires
+record-of-requires c κs = search needs
 
 change-requires : tie.Need-change-requires
 change-requires c κs = search needs
@@ -41,16 +49,22 @@ same-length-2 : tie.Need-same-length-2
 same-length-2 c = search needs
 
 returns : tie.Need-returns
-returns c = let a = c .before .before in change-refused (a .before .before .before .before .before .before .change .ensures .0) _ _ _ (a .answer .given .1) (c .refused .ensures)
+returns c =
+    let a = c .before .before in
+    let g = a .before .before .before .before .before .before in
+    let r = g .before .before .before in
+    let s = r .before .before .before .before .before .before .args in
+    let e = change-over (r .before .before .store-of .ensures) (r .before .view-of .ensures) (r .record-of .ensures) (kind-of (s .removal)) (s .bytes .now) (s .joined .now) (s .left .now) in
+    change-refused (g .change .ensures ∙ e) _ _ _ (a .answer .given .1) (c .refused .ensures)
 
 enum-told : tie.Need-enum-told
 enum-told c = search needs
 
 mul-result : tie.Need-mul-result
-mul-result c = search needs
+mul-result c = omega (arith, few c .0, few c .1)
 
 add-result : tie.Need-add-result
-add-result c = search needs
+add-result c = omega (arith, few c .0, few c .1)
 
 same-length-3 : tie.Need-same-length-3
 same-length-3 c = search needs
@@ -59,19 +73,20 @@ same-length-4 : tie.Need-same-length-4
 same-length-4 c = search needs
 
 returns-2 : tie.Need-returns-2
-returns-2 c = change-done (c .before .before .before .before .before .before .change .ensures .0) (c .enum-told .given .1)
+returns-2 c =
+    let g = changed c in
+    let r = g .before .before .before in
+    let s = r .before .before .before .before .before .before .args in
+    let e = change-over (r .before .before .store-of .ensures) (r .before .view-of .ensures) (r .record-of .ensures) (kind-of (s .removal)) (s .bytes .now) (s .joined .now) (s .left .now) in
+    change-done (g .change .ensures ∙ e) (c .enum-told .given .1)
 
 pub palmrummy-change-spec : {M : Type 1} → statement M
 palmrummy-change-spec =
     tie.close
     (tie.spec
-    element-copy-out-result
-    element-copy-out-result-2
-    element-copy-out-result-3
-    element-copy-out-t42
-    element-copy-out-t45
-    element-copy-out-t48
-    element-copy-out-t51
+    store-of-requires
+    view-of-requires
+    record-of-requires
     change-requires
     enum-known-answer
     refused-requires

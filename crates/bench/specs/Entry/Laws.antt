@@ -2,12 +2,22 @@
 -- 17, and those held before are in the layout.
 use Prim.Native.Nat.{ℕ, _+_, _*_}
 use mathlib.Core.Path.{_≡_, sym, ap, _∙_}
-use mathlib.Core.Bool.{true, false, cond}
+use mathlib.Core.Bool.{Bool, true, false, cond}
 use mathlib.Core.List.{List}
 use Rattle.causes.specs.declared.Answer.the-variants.{Done, Refused}
+use Rattle.tables.specs.declared.Record.{Record}
+use Rattle.tables.specs.declared.Store.{Store}
 use Rattle.answer.specs.declared.Found.{Found}
+use Rattle.answer.specs.Reply.{found-of}
+use Rattle.standing.specs.declared.View.{View}
 use Rattle.standing.specs.declared.Change.{Change}
+use Rattle.standing.specs.Checks.{Kind}
+use Rattle.standing.specs.Change.{change-of}
 use Rattle.bench.specs.Entry.{refusal, code, coded, change-code, coded-change}
+
+-- What is found over equal stores.
+pub found-over : {s t : Store} → s ≡ t → (bs : List ℕ) (wanted : Bool) (out : List ℕ) → found-of s bs wanted out ≡ found-of t bs wanted out
+found-over e bs wanted out = ap (λ u. found-of u bs wanted out) e
 
 module _ {f : Found} {out : List ℕ} {x : Found × List ℕ} (e : (f, out) ≡ x) where
   pub coded-refused : (n p m : ℕ) → f .answer ≡ Refused n p → m ≡ refusal n p → (m, out) ≡ coded x
@@ -20,6 +30,10 @@ module _ {f : Found} {out : List ℕ} {x : Found × List ℕ} (e : (f, out) ≡ 
   coded-rows a b = ap (λ c. (cond c 9223372036854775808 (f .rows), out)) (sym b) ∙ ap (λ b. (code b (f .endless) (f .rows), out)) (sym a) ∙ ap coded e
 
 -- ---- a change
+
+-- What a change of equal stores and lists by equal records comes to.
+pub change-over : {s t : Store} {v w : View} {r q : Record} → s ≡ t → v ≡ w → r ≡ q → (kind : Kind) (bs first second : List ℕ) → change-of kind s v bs r first second ≡ change-of kind t w bs q first second
+change-over a b c kind bs first second = λ i. change-of kind (a i) (b i) bs (c i) first second
 
 module _ {c : Change} {out : List ℕ × List ℕ} {x : Change × (List ℕ × List ℕ)} (e : (c, out) ≡ x) where
   pub change-refused : (n p m : ℕ) → c .answer ≡ Refused n p → m ≡ refusal n p → (m, out) ≡ coded-change x

@@ -53,7 +53,7 @@ in-run n zero i = absurd (in-nil i)
 in-run n (suc m) (here e) = omega arith
 in-run n (suc m) (there i) = omega (arith, in-run (suc n) m i)
 
--- So each is below n and the number of nodes.
+-- Each node's number is below n plus the number of nodes.
 pub node-below : (φ χ : Fmla) (n k : ℕ) → In (node k χ) (nodes φ n) → k < n + size φ
 node-below φ χ n k i = in-run n (size φ) (subst (In k) (nodes-numbers φ n) (in-map number-of i))
 

@@ -305,7 +305,7 @@ module _ (v w : ℕ) (vs ws : List ℕ) where
   pub same-differ : v ≢ w → false ≡ same-list (v ∷ vs) (w ∷ ws)
   same-differ n = rw (ne-eqb v w n)
 
-  -- They are the same: the rest decides.
+  -- Lists whose first numbers agree are ordered by the rest.
   pub below-agree : v ≡ w → lexicographic vs ws ≡ lexicographic (v ∷ vs) (w ∷ ws)
   below-agree e = rw (le-ltb v w (omega arith), eq-eqb v w e)
 

@@ -80,7 +80,7 @@ pub join-zero-right : (u : Bool) (φ : Fmla) → is-truth φ ≡ false → cp-jo
 join-zero-right true φ e = cond-is (cond (truth-of φ) (truth false) (truth false)) (truth false) e
 join-zero-right false φ e = cond-is (cond (truth-of φ) (truth true) (truth true)) (truth true) e
 
--- Without a truth value it stays.
+-- An and or an or without a truth value stays.
 pub join-neither : (u : Bool) (φ ψ : Fmla) → is-truth φ ≡ false → is-truth ψ ≡ false → cp-join u φ ψ ≡ join u φ ψ
 join-neither true φ ψ e f = λ i. cond (e i) (cond (truth-of φ) ψ (truth false)) (cond (f i) (cond (truth-of ψ) φ (truth false)) (conj φ ψ))
 join-neither false φ ψ e f = λ i. cond (e i) (cond (truth-of φ) (truth true) ψ) (cond (f i) (cond (truth-of ψ) (truth true) φ) (disj φ ψ))

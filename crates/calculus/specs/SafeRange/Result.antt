@@ -115,10 +115,10 @@ module _ (pool : Pool) (D : Database) (φ : Fmla) (s : SafeRange φ) where
       holds-form : Sat pool D (cp φ) (row-env (columns φ) w)
       holds-form = cp-sat pool D φ (row-env (columns φ) w) .1 (a .1)
 
-  -- It is never endless.
+  -- A safe-range query is never endless.
   pub safe-not-endless : ¬ Endless pool D φ (columns φ)
   safe-not-endless e = let h = endless-exactly pool D φ (columns φ) (fv-columns φ) .0 e in h .2 .2 (safe-values (h .0) (h .1) (h .2 .0) (h .2 .1))
 
-  -- So its rows are listed: all that satisfy it over all whole numbers and no other, by `rows-members`.
+  -- The rows of a safe-range query are listed: by `rows-members` all that satisfy it over all whole numbers, and no other.
   pub safe-listed : query-result pool D φ (columns φ) ≡ listed (rows-over pool D (known pool D φ) φ (columns φ))
   safe-listed = ap (λ b. cond b endless (listed (rows-over pool D (known pool D φ) φ (columns φ)))) (reflects-false (endless-reflects pool D (known pool D φ) φ (columns φ) (λ v i. i) (fv-columns φ)) safe-not-endless)

@@ -28,7 +28,7 @@ pub in-one : {A : Type 0} {x y : A} → In x (y ∷ []) → x ≡ y
 in-one (here e) = e
 in-one (there i) = absurd (in-nil i)
 
--- The same element may be put before both.
+-- A subset stays one where the same element is put before both.
 pub subset-cons : {A : Type 0} (x : A) {xs ys : List A} → xs ⊆ ys → (x ∷ xs) ⊆ (x ∷ ys)
 subset-cons x s y (here e) = here e
 subset-cons x s y (there i) = there (s y i)

@@ -137,13 +137,13 @@ all-clear-done [] c = refl
 all-clear-done (check m clear ∷ cs) c = all-clear-done cs (c .1)
 all-clear-done (check m (met q) ∷ cs) c = absurd (never-clear (c .0))
 
--- Where every check has a number above 0, so does a refusal,
+-- A refusal by checks whose numbers are above 0 has a number above 0.
 pub numbered-refused : (cs : List Check) → T (numbered cs) → (n p : ℕ) → first-cause cs ≡ Refused n p → 0 < n
 numbered-refused [] t n p e = absurd (never-done (sym e))
 numbered-refused (check m clear ∷ cs) t n p e = numbered-refused cs (and-holds (ltb 0 m) (numbered cs) t .1) n p e
 numbered-refused (check m (met q) ∷ cs) t n p e = subst (λ k. 0 < k) (ap number e) (reflected (reflects-ltb 0 m) (and-holds (ltb 0 m) (numbered cs) t .0))
 
--- and the number 0 means that the call was worked on.
+-- Of checks whose numbers are above 0 the answer 0 means that the call was worked on.
 pub numbered-done : (cs : List Check) → T (numbered cs) → number (first-cause cs) ≡ 0 → first-cause cs ≡ Done
 numbered-done cs t z = go (first-cause cs) refl z
   where

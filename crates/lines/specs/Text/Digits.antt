@@ -31,7 +31,7 @@ digits-read (suc k) n h = reading-snoc 0 (cond (ltb n 10) [] (digits k (n / 10))
     go (holds l) e = omega arith
     go (fails g) e = omega (arith, e)
 
--- They read back as the number,
+-- The digits of a number read back as the number.
 pub decimal-reads : (n : ℕ) → n < 10 ^ 10 → reading-from 0 (decimal n) ≡ n
 unfolding decimal
 decimal-reads n h = digits-read 10 n h
@@ -44,7 +44,7 @@ digits-range (suc k) n d i =
     (λ j. let e : d ≡ 48 + n % 10 = in-one j in (omega arith, omega arith))
     (in-append (cond (ltb n 10) [] (digits k (n / 10))) i)
 
--- each is one of 0 to 9,
+-- Each digit of a number is one of 0 to 9.
 pub decimal-digits : (n d : ℕ) → In d (decimal n) → (48 ≤ d) × (d ≤ 57)
 unfolding decimal
 decimal-digits n d i = digits-range 10 n d i
@@ -64,7 +64,7 @@ digits-front (suc k) n h e = go (reflects-ltb n 10) (digits-front k (n / 10) (wi
         let s : 0 < length (digits k (n / 10)) = some-digit k (n / 10) (without-last k n h) (omega arith) in
         omega (arith, r (sym (List·getD-append (digits k (n / 10)) ((48 + n % 10) ∷ []) 0 0 s) ∙ f))
 
--- and the first is 0 for the number 0 only.
+-- The first digit is 0 for the number 0 only.
 pub decimal-front : (n : ℕ) → n < 10 ^ 10 → getD (decimal n) 0 0 ≡ 48 → n ≡ 0
 unfolding decimal
 decimal-front n h e = digits-front 10 n h e

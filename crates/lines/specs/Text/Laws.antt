@@ -65,7 +65,7 @@ length-rows word k [] w = omega arith
 length-rows word k (r ∷ rows) w =
     omega (arith, length-append (line word r) (union-of (line word) rows), length-line word r, w r (here refl), length-rows word k rows (λ u i. w u (there i)), suc-mul (length rows) (length word + 1), suc-mul (length rows) k)
 
--- Of n rows that stand one after the other in a list.
+-- The length of the lines of n rows that stand one after the other in a list.
 pub length-cut-rows : (k n : ℕ) (xs : List ℕ) → n * k ≤ length xs → length (union-of (line word-row) (cut k n xs)) ≤ 4 * n + 11 * (n * k)
 length-cut-rows k n xs h =
     let l = subst (λ m. length (union-of (line word-row) (cut k n xs)) ≤ m * 4 + 11 * (m * k)) (length-cut k n xs) (length-rows word-row k (cut k n xs) (cut-width k n xs h)) in

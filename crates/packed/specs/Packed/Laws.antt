@@ -152,7 +152,7 @@ module _ (bs : List ℕ) where
     pub listing-refused : (write : Writing (List ℕ)) (room : ℕ) (buffer : List ℕ) → listing-in write room bs buffer ≡ (declined n p, buffer)
     listing-refused write room buffer = listing-by-cause write room buffer (Refused n p) (then-refused (input-checks bs) (row-checks (store-in bs) (query-read bs) room) n p (sym input-answer ∙ e))
 
-  -- Or accepted: the query can be evaluated over the store, the constants being 32-bit numbers.
+  -- An accepted input: its query can be evaluated over its store, the constants being 32-bit numbers.
   module _ (e : input-of bs .answer ≡ Done) where
     unmet : first-cause (input-checks bs) ≡ Done
     unmet = sym input-answer ∙ e

@@ -60,7 +60,7 @@ module _ (bs : List ℕ) where
       (λ b. absurd (not-endless (pool q) D (formula q) cols rows r (endless-iff (pool q) D (known (pool q) D (formula q)) (formula q) cols (λ u k. k) (fv-columns (formula q)) .1 (w, r .1 w .0 i, b))))
       (within-or-beyond (known (pool q) D (formula q)) w)
 
-  -- So it is a 32-bit number, the input being bytes: its digits read back as it.
+  -- Each value listed is a 32-bit number, the input being bytes: its digits read back as it.
   module _ (small : (i : ℕ) → getD bs i 0 < 256) (done : first-cause (input-checks bs) ≡ Done) where
     values-small : (i v : ℕ) → In v (values-of (record-at bs i)) → v < 2 ^ 32
     values-small i v (here e) = subst⁻¹ (λ u. u < 2 ^ 32) e (word-fits bs small (18 + 17 * i + 1))

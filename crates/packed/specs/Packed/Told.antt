@@ -66,7 +66,7 @@ module _ (bs : List ℕ) (room : ℕ) (done : first-cause (list-checks bs room) 
   pub few-columns : length (columns-in bs) ≤ 4
   few-columns = input-few bs (first-done (input-checks bs) last done)
 
-  -- Its rows, if they are finitely many, fit, and so are few.
+  -- The rows of an accepted list fit the room, and so are few.
   pub rows-fit : (rows : List Row) → result-in bs ≡ listed rows → Width (length (columns-in bs)) rows × (length rows * length (columns-in bs) ≤ room) × (length rows ≤ room + 1)
   rows-fit rows e = (wide, fits, few-rows (length (columns-in bs)) room rows (right .0) wide fits)
     where

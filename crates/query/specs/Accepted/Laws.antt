@@ -74,7 +74,7 @@ module _ (ws : List ℕ) (k : ℕ) (widths : T (widths-fit ws)) where
       go (is-exists e) = let r = rw e at h in rw e (exists-fits {x = variable w} (omega arith) (r (under w) (here refl)))
       go (is-none j e) = absurd (true≢false (rw e at f))
 
--- Of the first n nodes, each without faults and with its children below it.
+-- The formulas of the first n nodes, each without faults and with its children below it, fit the widths.
 module _ (ws : List ℕ) (k : ℕ) (ns : List ℕ) (n : ℕ) (widths : T (widths-fit ws))
     (below : (i : ℕ) → i < n → (c : ℕ) → In c (children (getD ns i 0)) → c < i)
     (formed : (i : ℕ) → i < n → malformed (getD ns i 0) ≡ false)
@@ -89,7 +89,7 @@ module _ (ws : List ℕ) (k : ℕ) (ns : List ℕ) (n : ℕ) (widths : T (widths
 
 -- ---- what the checks leave
 
--- Of the constants cs and the nodes ns.
+-- The constants cs and the nodes ns have passed the checks.
 pub record Checked (ws cs ns : List ℕ) : Type 0 where
   pub widths : T (widths-fit ws)
   pub some-node : 1 ≤ length ns
@@ -195,7 +195,7 @@ module _ (ws bs : List ℕ) where
   few-free : read-of ws bs .answer ≡ Done → length (columns (root (nodes-of bs))) ≤ max-columns
   few-free h = ltb-false max-columns (length (columns (root (nodes-of bs)))) (when-clear (ltb max-columns (length (columns (root (nodes-of bs))))) (tree-clear h .1 .1 .1 .1 .0))
 
-  -- It has at most four columns.
+  -- An accepted query has at most four columns.
   pub read-few : read-of ws bs .answer ≡ Done → length (columns (formula (read-of ws bs .query))) ≤ max-columns
   read-few h = subst⁻¹ (λ φ. length (columns φ) ≤ max-columns) (read-formula h) (few-free h)
 
@@ -239,7 +239,7 @@ module _ (ws bs : List ℕ) (h : read-of ws bs .answer ≡ Done) where
       let c = checked-with (replicate k 0) (length-replicate {A = ℕ} k 0) (λ v i. subst⁻¹ (λ u. u < 2 ^ 32) (from-replicate k 0 i) (omega arith)) in
       subst⁻¹ (λ φ. size φ ≤ max-nodes) (read-formula ws bs h) (omega (arith, size-right ws (replicate k 0) (nodes-of bs) c, c .few-nodes))
 
-  -- Where they are 32-bit numbers the query is an accepted one.
+  -- Where the constants are 32-bit numbers, the query read is an accepted one.
   module _ (small : (v : ℕ) → In v (constants-of bs) → v < 2 ^ 32) where
     pub read-checked : Checked ws (constants-of bs) (nodes-of bs)
     read-checked = checked-with (constants-of bs) (constants-length bs) small
@@ -247,7 +247,7 @@ module _ (ws bs : List ℕ) (h : read-of ws bs .answer ≡ Done) where
     small-accepted : Accepted ws (read-of ws bs .query)
     small-accepted = subst⁻¹ (λ r. Accepted ws (r .query)) (read-done ws bs h) (checked-accepted ws (constants-of bs) (nodes-of bs) read-checked)
 
--- So they are where the bytes are bytes, and where the reader's array of them is one of 32-bit numbers, as a caller sees it.
+-- The query read is an accepted one, where the bytes are bytes, and where the reader's array of constants is one of 32-bit numbers, as a caller sees it.
 pub read-accepted : (ws bs : List ℕ) → ((i : ℕ) → getD bs i 0 < 256) → read-of ws bs .answer ≡ Done → Accepted ws (read-of ws bs .query)
 read-accepted ws bs b h = small-accepted ws bs h (constant-fits bs b)
 

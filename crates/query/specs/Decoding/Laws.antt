@@ -50,7 +50,7 @@ module _ {A : Type 0} where
   every-snoc P (x ∷ xs) y d h p q zero = h zero
   every-snoc P (x ∷ xs) y d h p q (suc c) = every-snoc P xs y d (λ k. h (suc k)) p q c
 
-  -- The others are as before.
+  -- An element added at the end leaves the others.
   pub getD-snoc-other : (xs : List A) (y d : A) (c : ℕ) → (c ≡ length xs → ⊥) → getD (xs ++ (y ∷ [])) c d ≡ getD xs c d
   getD-snoc-other [] y d zero n = absurd (n refl)
   getD-snoc-other [] y d (suc c) n = refl

@@ -30,7 +30,7 @@ malformed-at w j =
     j
     true
 
--- It has a known kind.
+-- A node without a fault has a known kind.
 pub formed-kind : (w : ℕ) → malformed w ≡ false → kind w < 7
 formed-kind w f = go (kind w) f
   where
@@ -44,7 +44,7 @@ formed-kind w f = go (kind w) f
     go (suc (suc (suc (suc (suc (suc zero)))))) f = omega arith
     go (suc (suc (suc (suc (suc (suc (suc j))))))) f = absurd (subst T f tt)
 
--- So it has 32 bits.
+-- A node without a fault has 32 bits.
 pub formed-small : (w : ℕ) → malformed w ≡ false → w < 2 ^ 32
 formed-small w f = omega (arith, formed-kind w f)
 

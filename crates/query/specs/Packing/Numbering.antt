@@ -1,5 +1,5 @@
--- Nodes in packing's order: the nodes of a node's formula stand one after the other and end at that node, and what every step keeps of a formula and its
--- first node is so of every node's formula (`ordered-ends`).
+-- Nodes in packing's order: the nodes of a node's formula stand one after the other and end at that node. `ordered-ends` is the induction principle for them: a
+-- property that each kind of node preserves holds at every node.
 use Prim.Native.Nat.{ℕ, zero, suc, _+_, _-_, _≤_, _<_}
 use native.Mathlib.Omega.{arith}
 use mathlib.Core.Path.{_≡_, refl, subst, subst⁻¹, _∙_}

@@ -41,18 +41,18 @@ module _ (s : Store) (bs : List ℕ) (done : first-cause (begin-checks s bs) ≡
   pub begun-read : read-of (s .widths) bs .answer ≡ Done
   begun-read = ap (λ a. read-reply a (constants-of bs) (nodes-of bs) .answer) reads
 
-  -- It has at most four columns.
+  -- The query read has at most four columns.
   pub begun-few : length (columns (formula (query-read s bs))) ≤ 4
   begun-few = read-few (s .widths) bs begun-read
 
-  -- Its columns come with it.
+  -- The query read comes with its columns.
   pub begun-columns : read-of (s .widths) bs .columns ≡ columns-of (columns (formula (query-read s bs)))
   begun-columns = read-columns (s .widths) bs begun-read
 
   pub begun-variables : variables-in (read-of (s .widths) bs .columns) ≡ columns (formula (query-read s bs))
   begun-variables = let cols : List ℕ = columns (formula (query-read s bs)) in ap variables-in begun-columns ∙ take-append-seam cols (replicate (max-columns - length cols) 0)
 
-  -- It can be evaluated over every store in the layout that has the widths, the constants being 32-bit numbers.
+  -- The query read can be evaluated over every store in the layout that has the widths, the constants being 32-bit numbers.
   pub begun-evaluable : ((i : ℕ) → getD (query-read s bs .constants) i 0 < 2 ^ 32) → (t : Store) → t .widths ≡ s .widths → judgement t ≡ Done → Evaluable t (query-read s bs) (read-of (s .widths) bs .columns)
   begun-evaluable small t w judged =
       record {
@@ -72,7 +72,7 @@ module _ (s : Store) (bs : List ℕ) where
   pub begun-refused : (n p : ℕ) → judgement s ≡ Refused n p → answered (Refused n p) (read-of (s .widths) bs) ≡ begun s bs
   begun-refused n p e = ap (λ a. answered a (read-of (s .widths) bs)) (sym (then-refused (store-checks s) (read-checks (s .widths) bs) n p e))
 
-  -- It isn't: the query decides.
+  -- Where the store meets no cause, the query decides.
   pub begun-reading : judgement s ≡ Done → read-of (s .widths) bs ≡ begun s bs
   begun-reading judged = ap (λ a. answered a (read-of (s .widths) bs)) (sym (then-done (store-checks s) (read-checks (s .widths) bs) judged ∙ read-cause (s .widths) bs (read-of (s .widths) bs .answer) refl))
 
@@ -84,7 +84,7 @@ module _ (s : Store) (bs : List ℕ) where
     pub readied-refused : (n p : ℕ) → begun s bs .answer ≡ Refused n p → begun s bs ≡ readied s v bs
     readied-refused n p e = ap (λ a. answered a (begun s bs)) (e ∙ sym (then-refused (begin-checks s bs) (view-checks v wanted) n p e))
 
-    -- They aren't: the list decides.
+    -- Where store and query meet no cause, the list decides.
     list-decides : begun s bs .answer ≡ Done → (b : Bool) → suits v wanted ≡ b → first-cause (ready-checks s v bs) ≡ first-cause (check 12 (when (not b)) ∷ [])
     list-decides e b t = then-done (begin-checks s bs) (view-checks v wanted) e ∙ ap (λ c. first-cause (check 12 (when (not c)) ∷ [])) t
 
@@ -96,7 +96,7 @@ module _ (s : Store) (bs : List ℕ) where
 
 -- ---- rows found anew
 
--- Those that are not over 512, by the mark.
+-- Rows that are not over 512 are kept, with the mark.
 pub kept-by-mark : (found : Result) → current found .over ≡ false → current found ≡ all-kept found
 kept-by-mark found e = ap (λ b. cond b too-many (all-kept found)) (sym (over-is found) ∙ e)
 
@@ -114,7 +114,7 @@ module _ (s : Store) (bs : List ℕ) where
   pub opened-refused : (n p : ℕ) → first-cause (begin-checks s bs) ≡ Refused n p → opened-of s bs ≡ refused-opening n p
   opened-refused n p e = opened-by (Refused n p) (then-refused (begin-checks s bs) (over-checks result-found) n p e)
 
-  -- They aren't: the number of rows decides.
+  -- Where store and query meet no cause, the number of rows decides.
   module _ (done : first-cause (begin-checks s bs) ≡ Done) where
     rows-decide : (b : Bool) → current result-found .over ≡ b → first-cause (begin-checks s bs ++ over-checks result-found) ≡ first-cause (check 17 (when b) ∷ [])
     rows-decide b o = then-done (begin-checks s bs) (over-checks result-found) done ∙ ap (λ c. first-cause (check 17 (when c) ∷ [])) (sym (over-is result-found) ∙ o)

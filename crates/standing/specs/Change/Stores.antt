@@ -41,7 +41,7 @@ tables-held put s r done = put-held s r done
 tables-held removal s r done = removal-held s r done
 
 module _ (s : Store) (r : Record) (judged : judgement s ≡ Done) where
-  -- It judges a store that is judged well as if it did not.
+  -- The checks of a store in the layout leave the answer to the later ones.
   past-judgement : (cs : List Check) (t : Store) → reply (first-cause (store-checks s ++ cs)) s t ≡ reply (first-cause cs) s t
   past-judgement cs t = ap (λ a. reply a s t) (then-done (store-checks s) cs judged)
 

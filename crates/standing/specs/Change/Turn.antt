@@ -39,7 +39,7 @@ module _ (s : Store) (q : Query) where
   right : Right (pool q) (facts s) (formula q) (columns (formula q)) (result-of s q)
   right = result-right (pool q) (facts s) (formula q) (columns (formula q)) (fv-columns (formula q))
 
-  -- Its rows have a value for each column.
+  -- The rows of a result have a value for each column.
   pub result-wide : Width (length (columns (formula q))) (kept (result-of s q))
   result-wide = go (result-of s q) right
     where
@@ -47,7 +47,7 @@ module _ (s : Store) (q : Query) where
       go endless r w i = absurd (in-nil i)
       go (listed rows) r w i = r .1 w .0 i .0
 
-  -- They ascend.
+  -- The rows of a result ascend.
   pub result-ascends : Ascending row-below (kept (result-of s q))
   result-ascends = go (result-of s q) right
     where
@@ -98,7 +98,7 @@ module _ (x y n m k a b : ℕ) where
     left-past l i = cause-by (counted x n fits h i) (counted-past y m l i) (ltb a (n * k)) (ltb b (m * k))
 
     module _ (fits-too : y < 2 ^ 64) (l : m ≤ last - y) where
-      -- or for the buffers.
+      -- A buffer is too short: causes 18 and 19.
       pub joined-exceed : a < n * k → cause ≡ Refused 18 0
       joined-exceed f i = cause-by (counted x n fits h i) (counted y m fits-too l i) (lt-ltb a (n * k) f i) (ltb b (m * k))
 
@@ -119,15 +119,15 @@ module _ (x y n m k a b : ℕ) where
 
 -- ---- the rows found anew
 
--- They are over 512.
+-- What is found anew where the rows are over 512.
 abbrev pub too-many : Current
 too-many = record { over = true; endless = false; rows = stored [] }
 
--- They are kept.
+-- What is found anew where the rows are at most 512.
 abbrev pub all-kept : Result → Current
 all-kept found = record { over = false; endless = mark found; rows = stored (kept found) }
 
--- It is the first or the second, by their number.
+-- What is found anew is one of these two, by the number of rows.
 pub current-over : (found : Result) → 512 < length (kept found) → current found ≡ too-many
 current-over found h = ap (λ b. cond b too-many (all-kept found)) (lt-ltb 512 (length (kept found)) h)
 
@@ -161,7 +161,7 @@ module _ (s t : Store) (v : View) (q : Query) (first second : List ℕ) where
       let l : ℕ = length (leaving v found) in
       ap (λ b. replied (first-cause (report-checks b (v .opening ∷ (v .joined + j) ∷ (v .left + l) ∷ []) (length cols) j l (length first) (length second)))) e
 
-  -- They are not, and the count of rows at opening is of 64 bits, as that of every list in memory: the other two counts and the buffers decide.
+  -- Where the rows are at most 512, and the count of rows at opening is of 64 bits, as that of every list in memory, the other two counts and the buffers decide.
   pub settled-by : is-over (length (kept found)) ≡ false → is-past (v .opening) ≡ false → (a : Answer) →
       a ≡ first-cause (report-checks false ((v .joined + length (joining v found)) ∷ (v .left + length (leaving v found)) ∷ []) (length cols) (length (joining v found)) (length (leaving v found)) (length first) (length second)) →
       settled s t v q first second ≡ replied a

@@ -34,7 +34,7 @@ current found =
 abbrev pub begun : Store → List ℕ → Reading
 begun s bs = record { answer = first-cause (begin-checks s bs); query = read-of (s .widths) bs .query; columns = read-of (s .widths) bs .columns }
 
--- The same, and cause 12.
+-- The query as read, with the first of the causes 1 to 10 and 12.
 abbrev pub readied : Store → View → List ℕ → Reading
 readied s v bs = record { answer = first-cause (ready-checks s v bs); query = read-of (s .widths) bs .query; columns = read-of (s .widths) bs .columns }
 

@@ -17,10 +17,10 @@ InOrder r = (r .count ≤ max-rows) × Ascending row-below (lines-held r)
 abbrev pub values-of : Line → Row
 values-of x = x .first ∷ x .second ∷ x .third ∷ x .fourth ∷ []
 
--- The rows before place j are below x,
+-- Every row before place j is below x.
 abbrev pub Passed : List Row → ℕ → Row → Type 0
 Passed ys j x = (o : ℕ) → o < j → T (row-below (getD ys o []) x)
 
--- and the one at j, if any, is not: among ascending rows x can stand only there.
+-- Every row before place j is below x, and the one at j, if any, is not: among ascending rows x can stand only at j.
 abbrev pub Parted : List Row → ℕ → Row → Type 0
 Parted ys j x = Passed ys j x × (j < length ys → ¬ T (row-below (getD ys j []) x))

@@ -90,7 +90,7 @@ module _ (q : Query) where
     pub found-among : Found q ws rs (mark (result-among ws rs)) (kept (result-among ws rs))
     found-among = found-right (result-among ws rs) right-among
 
-    -- and what is found are the right answers.
+    -- The right answers are what is found.
     unique-among : (a : Result) → RightAmong a → a ≡ result-among ws rs
     unique-among a r = right-unique (pool q) (map (fact-of ws) rs) (formula q) (columns (formula q)) a (result-among ws rs) r right-among
 
@@ -168,14 +168,14 @@ module _ (q : Query) where
     same-record-cause : {x y : ℕ} → RecordCause l (c .kind) (c .tuple) x → RecordCause l (c .kind) (c .tuple) y → x ≡ y
     same-record-cause {x} {y} a b = let j = record-judged l (c .kind) (c .tuple) in j .number-is x .0 a ∙ sym (j .number-is y .0 b)
 
-    -- and one by the renewed ledger.
+    -- The renewed ledger meets one first cause.
     same-report-cause : {joined left others gone : List Row} {n m : Ledger} {x y : ℕ} → Renews q l c joined left n → Renews q l c others gone m → ReportCause n k joined left c x → ReportCause m k others gone c y → x ≡ y
     same-report-cause {joined} {left} {others} {gone} {n} {m} {x} {y} a b u v =
         let j = report-judged m k others gone c in
         let w = subst₂ (λ js ls. ReportCause m k js ls c x) (renews-joined a b) (renews-left a b) (subst (λ o. ReportCause o k joined left c x) (renews-unique a b) u) in
         j .number-is x .0 w ∙ sym (j .number-is y .0 v)
 
-  -- So a call has one answer, and the ledger after it is one.
+  -- A call has one answer, and one ledger after it.
   pub enters-unique : {l n m : Ledger} {c : Call} {r u : Report} → Enters q l c r n → Enters q l c u m → (r ≡ u) × (n ≡ m)
   enters-unique {l} {c = c} (refused h a) (refused g b) = (ap refuses (same-record-cause l c a b), refl)
   enters-unique {l} {c = c} (refused h a) (withdrawn b y g v) = never h (same-record-cause l c a b)
@@ -231,7 +231,7 @@ module _ (q : Query) where
   pub ledger-opens : (s : Store) → (l : Ledger) × Opens q s l
   ledger-opens s = (opening-ledger s, opening-opens s)
 
-  -- They do at the opening over a store in the layout, and every call keeps them so.
+  -- Records and rows ascend at the opening over a store in the layout, and every call keeps them so.
   pub opens-ordered : (s : Store) (l : Ledger) → judgement s ≡ Done → Opens q s l → Ordered l
   opens-ordered s l judged o =
       record {
@@ -314,7 +314,7 @@ module _ (q : Query) where
   pub ledger-goes-on : (l : Ledger) (cs : List Call) → Ordered l → (rs : List Report) × (n : Ledger) × Accounts q l cs rs n
   ledger-goes-on l cs z = (entries l cs .0, entries l cs .1, entries-account l cs z)
 
-  -- So every ledger is that one.
+  -- Every entry is the one found.
   pub enters-is : (l : Ledger) (c : Call) (r : Report) (n : Ledger) → Ordered l → Enters q l c r n → (r, n) ≡ entry l c
   enters-is l c r n z e = let s = enters-unique e (entry-enters l c z) in λ i. (s .0 i, s .1 i)
 

@@ -33,12 +33,12 @@ use Rattle.standing.specs.Runs.Steps.{Standing, step, steps, standing-ro
 -- ---- what a list keeps of right answers
 
 module _ (s : Store) (q : Query) where
-  -- Its mark says whether infinitely many rows satisfy the query;
+  -- The mark of a right result says whether infinitely many rows satisfy the query.
   marks : (a : Result) → RightOver s q a → Reflects (EndlessOver s q) (mark a)
   marks endless r = holds r
   marks (listed rows) r = fails (not-endless (pool q) (facts s) (formula q) (columns (formula q)) rows r)
 
-  -- where not, it keeps all that do.
+  -- A right result that is not endless keeps all rows that satisfy the query.
   keeps : (a : Result) → RightOver s q a → ¬ EndlessOver s q → RightOver s q (listed (kept a))
   keeps endless r n = absurd (n r)
   keeps (listed rows) r n = r
@@ -100,11 +100,11 @@ module _ (bs : List ℕ) (s t : Store) (v w : View) (opened : opened-of s bs ≡
   pub run-endless : Reflects (EndlessOver t (query-read s bs)) (w .endless)
   run-endless = subst⁻¹ (λ u. Reflects (EndlessOver t q) (u .endless)) (stands .view-is) (marks t q (result-of t q) (right-among q (t .widths) (held t)))
 
-  -- and then without rows;
+  -- An endless list has no rows.
   pub run-marked : w .endless ≡ true → rows-in w ≡ []
   run-marked e = rows-held ∙ marked-none (result-of t q) (ap (λ u. u .endless) (sym (stands .view-is)) ∙ e)
 
-  -- else the list holds all such rows and no other, each once, ascending.
+  -- A list that is not endless holds all rows that satisfy the query and no other, each once, ascending.
   pub run-rows : ¬ EndlessOver t (query-read s bs) → RightOver t (query-read s bs) (listed (rows-in w))
   run-rows n = subst⁻¹ (λ rows. RightOver t q (listed rows)) rows-held (keeps t q (result-of t q) (right-among q (t .widths) (held t)) n)
 
@@ -113,8 +113,8 @@ module _ (bs : List ℕ) (s t : Store) (v w : View) (opened : opened-of s bs ≡
   run-balanced =
       subst⁻¹ (λ u. u .opening + u .joined ≡ u .left + length (kept (result-of t q))) (stands .view-is) (stands .state .balanced .counts) ∙ ap (λ rows. w .left + length rows) (sym rows-held)
 
-  -- They are of the rows at the opening, and of all that the replies told; so the rows at the opening and those told as joined are as many as those told as
-  -- left and the rows held.
+  -- The counts are those of the rows at the opening and of all that the replies told; so the rows at the opening and those told as joined are as many as those
+  -- told as left and the rows held.
   pub run-counts : (w .opening ≡ length (rows-in v)) × (w .joined ≡ joined-in rs) × (w .left ≡ left-in rs)
   run-counts =
       let all = counted bs run in

@@ -1,5 +1,5 @@
--- The opening and the calls of a run. A store with three counts decides both a ledger and a list; a call takes both to those of the next store and counts, and
--- its reply is the report of the ledger as a function (`entry`), whose checks are the engine's where none of the causes 1 to 12 is met.
+-- The opening and the calls of a run. Invariant: one store and three counts determine both the ledger and the list. Each call preserves it: the engine and the
+-- ledger judge the same data. The reply is the report of the ledger as a function (`entry`), whose checks are the engine's where none of the causes 1 to 12 is met.
 use Prim.Native.Nat.{ℕ, _+_, _*_, _≤_}
 use native.Mathlib.Omega.{arith}
 use mathlib.Core.Path.{_≡_, refl, sym, ap, subst, subst⁻¹, _∙_}
@@ -95,14 +95,14 @@ module _ (bs : List ℕ) (q : Query) where
     wide : Width (length (columns (formula q))) (kept (result-of s q))
     wide = result-wide s q
 
-    -- It holds the ledger's rows, and is in the layout.
+    -- The list of a store and three counts holds the ledger's rows, and is in the layout.
     rows-are : rows-in (list-of s o j e) ≡ kept (result-of s q)
     rows-are = rows-of-view (columns (formula q)) cols (result-of s q) (state .few) wide (state .balanced .ascending) o j e
 
     list-suits : T (suits (list-of s o j e) (columns (formula q)))
     list-suits = view-suits (columns (formula q)) cols (result-of s q) (state .few) wide (state .balanced .ascending) o j e (state .balanced .counts)
 
-    -- So store and list are the ledger's.
+    -- The store and the list represent the ledger.
     represents : Represents q (ledger-of s o j e) s (list-of s o j e)
     represents =
         record {
@@ -164,7 +164,7 @@ module _ (bs : List ℕ) (q : Query) where
       turned Done found = refl
       turned (Refused n p) found = refl
 
-      -- It is that for the rows of the ledger.
+      -- The engine's reply is that for the rows of the ledger.
       changed : change ≡ replied (first-cause (tests ++ reports before (result-of after q))) before (result-of after q)
       changed =
           ap (λ a. turn-reply a s after v (columns (formula read)) (result-of after read) (c .first) (c .second)) (then-done (ready-checks s v bs) (tests ++ turn-checks v (columns (formula read)) (result-of after read) (length (c .first)) (length (c .second))) ready-done)
@@ -251,12 +251,12 @@ module _ (bs : List ℕ) (q : Query) where
             record { opening = o; joined = j + length joined; left = e + length left; state = next-state; ledger-is = next-is; view-is = refl },
           )
 
-        -- So whatever the causes 17 to 19 come to.
+        -- Engine and ledger come to the same, whatever the causes 17 to 19 do.
         turn-matches : (a : Outcome) → first-cause (reports before found) ≡ a → Matches c (replied a before found) (entered a (ledger-of s o j e) next)
         turn-matches Done f = accepted-matches f
         turn-matches (Refused n p) f = refused-matches n p found next
 
-      -- And whatever the causes 13 to 16 do.
+      -- Engine and ledger come to the same, whatever the causes 13 to 16 do.
       change-matches : (a : Outcome) → first-cause tests ≡ a → Matches c change (entry q (ledger-of s o j e) c)
       change-matches Done f =
           let found : Result = result-of after q in
@@ -303,7 +303,7 @@ module _ (bs : List ℕ) (q : Query) where
 
 -- ---- an accepted opening
 
--- It answers with the list of what is found.
+-- An accepted opening answers with the list of what is found.
 opening-accepted : (a : Outcome) (cols : List ℕ) (found : Result) (v : View) → opening-reply a cols found ≡ record { answer = Done; view = v } → (a ≡ Done) × (v ≡ view-of cols found (length (kept found)) 0 0)
 opening-accepted Done cols found v e = (refl, ap (λ r. r .view) (sym e))
 opening-accepted (Refused n p) cols found v e = absurd (subst (λ r. T (not (is-done (r .answer)))) e tt)
@@ -325,7 +325,7 @@ module _ (bs : List ℕ) (s : Store) (v : View) (opened : opened-of s bs ≡ rec
   begun : first-cause (begin-checks s bs) ≡ Done
   begun = first-done (begin-checks s bs) (over-checks answered) (accepted .0)
 
-  -- That list stands for the ledger of the opening.
+  -- The list of the opening stands for the ledger of the opening.
   pub opening-standing : Standing bs (query-read s bs) (opening-ledger (query-read s bs) s) s v
   opening-standing =
       record {

@@ -45,7 +45,7 @@ padded-same v w e p =
 
 -- Rows of one width, filled up.
 module _ (k : ℕ) where
-  -- They ascend where the rows do.
+  -- Rows filled up with zeros ascend where the rows do.
   pub padded-ascends : (rows : List Row) → Width k rows → is-ascending row-below (map (padded 4 0) rows) ≡ is-ascending row-below rows
   padded-ascends [] w = refl
   padded-ascends (r ∷ rows) w = λ i. first rows w i && padded-ascends rows (λ v j. w v (there j)) i
@@ -73,7 +73,7 @@ module _ (k : ℕ) where
 
 -- ---- the rows of one list only
 
--- They are rows of the first list: of its width, and no more of them.
+-- The rows of one list only have the width of the first list, and are no more than its rows.
 pub only-in-width : (k : ℕ) (xs ys : List Row) → Width k xs → Width k (only-in xs ys)
 only-in-width k xs ys w = λ v i. w v (from-select (λ u. not (any-of (same-list u) ys)) xs i .0)
 

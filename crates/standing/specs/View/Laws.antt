@@ -144,22 +144,22 @@ module _ (k : ℕ) (few : k ≤ 4) (rows : List Row) (h : length rows ≤ 512) (
   length-filled : length (filled rows) ≡ 512
   length-filled = length-append mine others ∙ omega (arith, length-mine, length-replicate (512 - length rows) no-line)
 
-  -- They take all places.
+  -- Stored rows take all places.
   pub length-stored : length (stored rows .values) ≡ 2048
   length-stored = ap length (values-filled rows) ∙ numbers-width 4 (filled rows) width-all ∙ ap (λ n. n * 4) length-filled
 
   lines-filled : lines (stored rows .values) ≡ filled rows
   lines-filled = ap lines (values-filled rows) ∙ lines-numbers (filled rows) width-all length-filled
 
-  -- Their lines are the rows, filled up with zeros,
+  -- The lines of stored rows are the rows, filled up with zeros.
   pub lines-stored : lines-held (stored rows) ≡ map (padded 4 0) rows
   lines-stored = ap (take (length rows)) lines-filled ∙ take-at mine others (length rows) length-mine
 
-  -- and the lines after them are zero.
+  -- The lines past stored rows are zero.
   pub unused-stored : lines-unused (stored rows) ≡ replicate (512 - length rows) (0 ∷ 0 ∷ 0 ∷ 0 ∷ [])
   unused-stored = ap (drop (length rows)) lines-filled ∙ drop-at mine others (length rows) length-mine
 
-  -- They are read back.
+  -- Stored rows are read back.
   pub rows-stored : map (take k) (lines-held (stored rows)) ≡ rows
   rows-stored = ap (map (take k)) lines-stored ∙ rows-read k rows wide
 

@@ -40,7 +40,7 @@ all-copies p z e (suc n) = λ i. e i && all-copies p z e n i
 pub ends-padded : (n : ℕ) (xs : List ℕ) → ends (length xs) (padded n 0 xs) ≡ true
 ends-padded n xs = ap (all-of (eqb 0)) (drop-append-seam xs (replicate (n - length xs) 0)) ∙ all-copies (eqb 0) 0 refl (n - length xs)
 
--- One that is zero from place k on is its first k values, filled up.
+-- A line that is zero from place k on is its first k values, filled up.
 pub padded-taken : (n k : ℕ) (xs : List ℕ) → length xs ≡ n → k ≤ n → T (ends k xs) → xs ≡ padded n 0 (take k xs)
 padded-taken n k xs e h t =
     let l : length (drop k xs) ≡ n - length (take k xs) = omega (arith, length-drop k xs, length-take-le k xs (omega arith)) in
@@ -66,7 +66,7 @@ module _ (r : Rows) (k : ℕ) (few : k ≤ 4) where
       go [] w s = refl
       go (l ∷ ls) w s = let p = and-holds (ends k l) (all-of (ends k) ls) s in λ i. padded-taken 4 k l (w l (here refl)) few (p .0) i ∷ go ls (λ u j. w u (there j)) (p .1) i
 
-  -- So they are in order where their first k values are.
+  -- Lines that are zero past their first k values are in order where these values are.
   ascend-alike : T (all-of (ends k) (lines-held r)) → is-ascending row-below (lines-held r) ≡ is-ascending row-below (map (take k) (lines-held r))
   ascend-alike t = ap (is-ascending row-below) (lines-padded t) ∙ padded-ascends k (map (take k) (lines-held r)) (width-rows k (r .count) (r .values) few)
 
@@ -126,7 +126,7 @@ suited v cols e t =
 pub columns-read : (cols : List ℕ) → variables-in (columns-of cols) ≡ cols
 columns-read cols = take-append-seam cols (replicate (4 - length cols) 0)
 
--- Of a query that was not refused.
+-- The columns of a query that was not refused.
 pub query-columns : (q : Query) → length (columns (formula q)) ≤ 4 → QueryColumns (columns-of (columns (formula q)))
 query-columns q h =
     let e : variables-in (columns-of (columns (formula q))) ≡ columns (formula q) = columns-read (columns (formula q)) in
@@ -137,7 +137,7 @@ query-columns q h =
       whole = ap columns-of (sym e);
     }
 
--- They are in the layout.
+-- A query's columns are in the layout.
 columns-right : (v : View) → QueryColumns (v .columns) → columns-fit v ≡ true
 columns-right v q =
     let cols = columns-in v in
@@ -165,12 +165,12 @@ regroup a b true u n m h = rw (h tt) (go a u n)
     go false u n = refl
 
 module _ (v : View) (c : Columns) (q : QueryColumns c) where
-  -- With other columns it is not in the layout.
+  -- A list with other columns is not in the layout.
   pub suits-other : length (v .columns .variables) ≡ 4 → ¬ (v .columns ≡ c) → false ≡ suits v (variables-in c)
   suits-other e n = sym (reflects-false (reflects-T (suits v (variables-in c))) (λ t. n (suited v (variables-in c) e t .columns-are ∙ sym (q .whole))))
 
   module _ (e : v .columns ≡ c) where
-    -- With the same columns, rows and counts decide.
+    -- Of a list with the query's columns, rows and counts decide.
     suits-rows : suits v (variables-in c) ≡ rows-fit v && counts-fit v
     suits-rows =
         subst
@@ -183,7 +183,7 @@ module _ (v : View) (c : Columns) (q : QueryColumns c) where
     suits-many h = sym (suits-rows ∙ rw (lt-leb (v .rows .count) 512 h))
 
     module _ (h : v .rows .count ≤ 512) where
-      -- Else these tests are left, in this order.
+      -- Of a list with the query's columns and at most 512 rows, these tests are left, in this order.
       suits-tests : suits v (variables-in c) ≡ (all-of (ends (c .count)) (lines-held (v .rows)) && is-ascending row-below (lines-held (v .rows)) && all-of (ends 0) (lines-unused (v .rows)) && not (v .endless && ltb 0 (v .rows .count)) && eqb (v .opening + v .joined) (v .left + v .rows .count))
       suits-tests =
           let k : ℕ = v .columns .count in
@@ -226,11 +226,11 @@ module _ (cols : List ℕ) (c : QueryColumns (columns-of cols)) (found : Result)
   columns-few : length cols ≤ 4
   columns-few = subst (λ xs. length xs ≤ 4) (columns-read cols) (c .few)
 
-  -- It holds them,
+  -- The list of a result holds its rows.
   pub rows-of-view : rows-in (view-of cols found o j l) ≡ kept found
   rows-of-view = rows-stored (length cols) columns-few (kept found) few wide
 
-  -- and is in the layout where its counts add up.
+  -- The list of a result is in the layout where its counts add up.
   pub view-suits : o + j ≡ l + length (kept found) → T (suits (view-of cols found o j l) cols)
   view-suits e =
       let held : lines-held (stored (kept found)) ≡ map (padded 4 0) (kept found) = lines-stored (length cols) columns-few (kept found) few wide in

@@ -138,7 +138,7 @@ raised-above ps k i r h l m =
     ∙ getD-drop k ps (i - k) blank
     ∙ ap (λ j. getD ps j blank) f
 
--- And at a removal those past place k go one place down.
+-- At a removal the records past place k go one place down.
 module _ (ps : List Record) (k i : ℕ) where
   lowered-kept : length (take k ps ++ drop (suc k) ps) ≡ length (take k ps) + length (drop (suc k) ps)
   lowered-kept = length-append (take k ps) (drop (suc k) ps)
@@ -264,7 +264,7 @@ module _ (s : Store) (r : Record) (l : Layout s) where
   deletion-store : found r (held s) ≡ true → of-places (s .widths) (lowered (places-of s) (rank r (held s))) (s .count - 1) ≡ after-removal s r
   deletion-store f = ap₂ (of-places (s .widths)) (lowered-places f) (omega (arith, few, ap length (without-at-rank r (held s) (l .ascending) f), length-taken-out (held s) (rank r (held s)) (rank-found r (held s) f)))
 
--- Without the checks of the judgement, which such a store passes.
+-- Over a store in the layout an insertion is a put without the checks of the judgement, which the store passes.
 pub insertion-in-layout : (s : Store) (r : Record) → Layout s → insertion s r ≡ reply (first-cause (put-checks s r (is-held r (held s)))) s (after-put s r)
 insertion-in-layout s r l = reply-same (first-cause (put-checks s r (found r (held s)))) s _ (after-put s r) stores ∙ ap (λ b. reply (first-cause (put-checks s r b)) s (after-put s r)) (found-held r (held s) (l .ascending))
   where

@@ -22,11 +22,11 @@ found r (p ∷ ps) = cond (record-below p r) (found r ps) (same-record p r)
 abbrev pub located : Store → Record → Spot
 located s r = record { fits = fits (s .widths) r; place = rank r (held s); held = found r (held s) }
 
--- r at place k, and the records from there on one place up; the last one goes.
+-- The places with r at place k, and the records from there on one place up; the last one falls out.
 abbrev pub raised : List Record → ℕ → Record → List Record
 raised ps k r = take capacity (take k ps ++ (r ∷ drop k ps))
 
--- Without the record at place k, those past it one place down, and the last place blank.
+-- The places without the record at place k, those past it one place down, and the last place blank.
 abbrev pub lowered : List Record → ℕ → List Record
 lowered ps k = take k ps ++ drop (suc k) ps ++ (blank ∷ [])
 

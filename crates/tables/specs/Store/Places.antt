@@ -167,7 +167,7 @@ module _ {A : Type 0} where
   insert-at [] (suc k) x = x ∷ []
   insert-at (y ∷ xs) (suc k) x = y ∷ insert-at xs k x
 
-  -- Without what stands at place k.
+  -- A list without what stands at place k.
   abbrev pub remove-at : List A → ℕ → List A
   remove-at [] k = []
   remove-at (y ∷ xs) zero = xs

@@ -27,7 +27,7 @@ pub bits-none : (f : ℕ → Bool) → bits f zero ≡ 0
 unfolding bits
 bits-none f = refl
 
--- The same test below k.
+-- Tests that agree below k have one set.
 pub bits-same : (f g : ℕ → Bool) (k : ℕ) → ((n : ℕ) → n < k → f n ≡ g n) → bits f k ≡ bits g k
 bits-same f g zero h = bits-none f ∙ sym (bits-none g)
 bits-same f g (suc k) h = bits-suc f k ∙ (λ i. bits-same f g k (λ n l. h n (omega arith)) i * 2 + bit (h k (omega arith) i)) ∙ sym (bits-suc g k)
@@ -70,11 +70,11 @@ pub bits-and : (f g : ℕ → Bool) (k : ℕ) → bitAnd (bits f k) (bits g k) �
 bits-and f g zero = (λ i. bitAnd (bits-none f i) (bits-none g i)) ∙ sym (bits-none (λ n. f n && g n))
 bits-and f g (suc k) = (λ i. bitAnd (bits-suc f k i) (bits-suc g k i)) ∙ and-next (bits f k) (bits g k) (f k) (g k) ∙ ap (λ m. m * 2 + bit (f k && g k)) (bits-and f g k) ∙ sym (bits-suc (λ n. f n && g n) k)
 
--- Of lists: one after the other.
+-- The union of the sets of two lists is the set of one after the other.
 pub mask-append : (k : ℕ) (xs ys : List ℕ) → bitOr (mask k xs) (mask k ys) ≡ mask k (xs ++ ys)
 mask-append k xs ys = bits-or (λ n. member n xs) (λ n. member n ys) k ∙ bits-same (λ n. member n xs || member n ys) (λ n. member n (xs ++ ys)) k (λ n h. sym (member-append n xs ys))
 
--- Of sets that are known to be those of lists.
+-- The union of two sets that are known to be those of lists.
 pub mask-joined : (k m n : ℕ) (xs ys : List ℕ) → m ≡ mask k xs → n ≡ mask k ys → bitOr m n ≡ mask k (xs ++ ys)
 mask-joined k m n xs ys d e = (λ i. bitOr (d i) (e i)) ∙ mask-append k xs ys
 
@@ -153,7 +153,7 @@ has-bits f k x h = ap nonzero (bits-and f (λ n. member n (x ∷ [])) k) ∙ go 
     go true e = some e (bits (λ n. f n && member n (x ∷ [])) k) refl
     go false e = ap nonzero (bits-empty (λ n. f n && member n (x ∷ [])) k (λ n l. none-of e n (reflects-eqb n x)))
 
--- So the set says which numbers pass the test.
+-- Two tests with one set agree below k: the set says which numbers pass.
 pub bits-injective : (f g : ℕ → Bool) (k : ℕ) → bits f k ≡ bits g k → (n : ℕ) → n < k → f n ≡ g n
 bits-injective f g k e n h = sym (has-bits f k n h) ∙ ap (λ s. has k s n) e ∙ has-bits g k n h
 

@@ -21,7 +21,7 @@ use Rattle.query.specs.Accepted.{Accepted}
 abbrev pub IsAccepted : Query → Type 0
 IsAccepted q = (ws : List ℕ) × Accepted ws q
 
--- A node of such a query.
+-- A node of an accepted query.
 pub record InQuery (nodes : List ℕ) (i : ℕ) : Type 0 where
   pub widths : List ℕ
   pub query : Query
@@ -39,7 +39,7 @@ pub record IsForm (nodes : List ℕ) (n : ℕ) : Type 0 where
 
 -- ---- the words so far, and what a node does to them
 
--- Their number, and the array that holds them, with zeros after them.
+-- The words so far: their number, and the array that holds them, with zeros after them.
 abbrev pub written : List ℕ → ℕ × List ℕ
 written xs = (length xs, padded max-nodes 0 xs)
 

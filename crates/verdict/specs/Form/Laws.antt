@@ -231,7 +231,7 @@ module _ (ws : List ℕ) (q : Query) (a : Accepted ws q) where
   pub form-accepted : Accepted ws (form-of q)
   form-accepted = packed-accepted ws (pool q) (cp (formula q)) (a .widths-right) form-packable
 
-  -- It is what the reader makes of the packing of the propagated formula.
+  -- The form is what the reader makes of the packing of the propagated formula.
   pub form-packed : read-of ws (pack (pool q) (cp (formula q))) .query ≡ form-of q
   form-packed = ap (λ r. r .query) (read-pack ws (pool q) (cp (formula q)) (a .widths-right) form-packable .0)
 

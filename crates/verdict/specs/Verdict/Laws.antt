@@ -50,7 +50,7 @@ module _ (ws bs : List ℕ) where
   pub verdict-refused : (n p : ℕ) → read-of ws bs .answer ≡ Refused n p → verdict-of ws bs ≡ refusal n p
   verdict-refused n p e = ap (λ a. verdict-reply a (read-of ws bs .query)) e
 
-  -- With what the reader hands back.
+  -- A refusal of the verdict comes with what the reader hands back.
   pub refused-with : (r : Reading) (n p : ℕ) → r ≡ read-of ws bs → r .answer ≡ Refused n p → refusal-with n p (r .query) (r .columns) ≡ verdict-of ws bs
   refused-with r n p d e =
       let f : read-of ws bs .answer ≡ Refused n p = ap (λ v. v .answer) (sym d) ∙ e in
@@ -114,7 +114,7 @@ module _ (ws : List ℕ) (q : Query) (a : Accepted ws q) where
   pub generator-bit : (c n : ℕ) → c < length (columns (formula q)) → n < max-nodes → has max-nodes (getD (judged q .generators) c 0) n ≡ member n (leaves (plain (cp (formula q)) 0 (getD (columns (formula q)) c 0)))
   generator-bit c n h l = ap (λ m. has max-nodes m n) (number-at (formula q) c h) ∙ has-bits (λ k. member k (leaves (plain (cp (formula q)) 0 (getD (columns (formula q)) c 0)))) max-nodes n l
 
-  -- They are the leaves beside a set that 000 allows, and none where it allows none.
+  -- The generators of a column are the leaves beside a set that 000 allows, and none where it allows none.
   pub generator-right : (c : ℕ) → c < length (columns (formula q)) → (a : Leaves) × LeavesRight (getD (columns (formula q)) c 0) (cp (formula q)) 0 a × (getD (judged q .generators) c 0 ≡ node-mask (leaves a))
   generator-right c h = let x : ℕ = getD (columns (formula q)) c 0 in (plain (cp (formula q)) 0 x, plain-right (cp (formula q)) 0 x, number-at (formula q) c h)
 
