@@ -13,6 +13,8 @@ use tables::Record;
 use tables::Store;
 use tables::VALUES;
 ghost use mathlib.Core.Path.{_≡_};
+ghost use Prim.Native.Nat.{_<_};
+ghost use Rattle.query.specs.Reading.{max-nodes};
 ghost use Rattle.answer.specs.Reply.{found-of};
 ghost use Rattle.standing.specs.Checks.{kind-of};
 ghost use Rattle.standing.specs.Change.{change-of};
@@ -80,11 +82,12 @@ fn record_of(relation: u8, tuple: &[u32; 4]) -> Record
     }
 }
 
-// A refusal as one number.
-fn refused(number: u8, place: u8) -> u64
+// A refusal as one number. The place is a node's number, or 0.
+fn refused(number: u8, place: u64) -> u64
+    requires { ⌜ place < max-nodes ⌝ }
     ensures { λ r. ⌜ r ≡ refusal number place ⌝ }
 {
-    9223372036854775808 + 256 * number as u64 + place as u64
+    9223372036854775808 + 256 * number as u64 + place
 }
 
 // The answer to the query that the bytes hold. The number of rows; or 2^63 for endless; or 2^63 + 256 × number + place for a refusal.

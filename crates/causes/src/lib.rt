@@ -11,7 +11,7 @@ pub const MAX_WIDTH: u8 = 4;
 // A call was worked on, or declined: the cause's number in document 01's table, and its place.
 pub enum Answer {
     Done,
-    Refused(u8, u8),
+    Refused(u8, u64),
 }
 
 // Whether every width is at most 4. Where not, cause 1 is met.

@@ -7,6 +7,7 @@ use verdict::Verdict;
 ghost use mathlib.Core.Path.{_≡_};
 ghost use Prim.Native.Nat.{_<_};
 ghost use Rattle.causes.specs.declared.Answer.the-variants.{Refused};
+ghost use Rattle.query.specs.Reading.{max-nodes};
 ghost use Rattle.host.specs.Entry.{code, verdict-bytes, verdict-entry, answer-entry};
 ghost use Rattle.host.specs.Code.Entry.{Writable};
 
@@ -19,8 +20,9 @@ const REFUSED: u32 = 2147483648;
 // What an endless answer returns, and where the refusals of an answer start.
 const ENDLESS: u64 = 9223372036854775808;
 
-// The number and place of a refusal as one number.
-fn code(number: u8, place: u8) -> u32
+// The number and place of a refusal as one number. The place is a node's number, or 0, so both can be read off.
+fn code(number: u8, place: u64) -> u32
+    requires { ⌜ place < max-nodes ⌝ }
     ensures { λ r. ⌜ (r ≡ code (Refused number place)) × (r < 65536) ⌝ }
 {
     256 * number as u32 + place as u32

@@ -5,9 +5,10 @@ use causes::Answer;
 use query::Columns;
 ghost use mathlib.Core.Path.{_≡_};
 ghost use mathlib.Core.List.{_∷_, []};
-ghost use Prim.Native.Nat.{_+_, _*_, _≤_};
+ghost use Prim.Native.Nat.{_+_, _*_, _≤_, _<_};
 ghost use lib.ListN.{length, take};
 ghost use Rattle.calculus.specs.Sets.{union-of};
+ghost use Rattle.query.specs.Reading.{max-nodes};
 ghost use Rattle.answer.specs.Code.Listing.{cut};
 ghost use Rattle.lines.specs.Text.{line, word-refused, word-row, word-rows, word-endless, head-text, printed};
 ghost use Rattle.lines.specs.Code.Text.{wrote};
@@ -15,9 +16,9 @@ ghost use Rattle.lines.specs.Code.Text.{wrote};
 // The bytes of the longest output, and some more.
 pub const LINES: usize = 65536;
 
-// The line of a refusal, at the front of a list.
-fn refusal(number: u8, place: u8, out: &mut [u8]) -> usize
-    requires { ⌜ 64 ≤ length (now out) ⌝ }
+// The line of a refusal, at the front of a list. The place is a node's number, or 0.
+fn refusal(number: u8, place: u64, out: &mut [u8]) -> usize
+    requires { ⌜ (place < max-nodes) × (64 ≤ length (now out)) ⌝ }
     ensures { λ r. ⌜ (r, now (out .exit)) ≡ wrote 0 (line word-refused (number ∷ place ∷ [])) (now (out .entry)) ⌝ }
 {
     let word = [b'r', b'e', b'f', b'u', b's', b'e', b'd'];

@@ -28,6 +28,7 @@ use Rattle.answer.specs.declared.Found.{Found}
 use Rattle.answer.specs.Reply.{result-of, row-checks, Writing, front, front-bytes, worked-by, RightOver, KnownTo}
 use Rattle.packed.specs.declared.Listing.{Listing}
 pub mod Laws
+pub mod Places
 pub mod Told
 pub mod Right
 

@@ -13,7 +13,7 @@ use tables::Store;
 use verdict::Verdict;
 ghost use mathlib.Core.Path.{_≡_};
 ghost use lib.ListN.{replicate};
-ghost use Rattle.packed.specs.Code.Packed.{refusal, input-of, listing-with};
+ghost use Rattle.packed.specs.Code.Packed.{refusal, input-of, assessed, listing-with};
 ghost use Rattle.packed.specs.Packed.{judged-of, declined, listing-of, byte-listing-of};
 
 // The most bytes of an input; the bytes before its records; the bytes of a record.
@@ -34,6 +34,12 @@ pub struct Input {
     pub columns: Columns,
 }
 
+// An input as judged: the store of its records, and the verdict on its query, with the query's form and columns; or the verdict's refusal.
+pub struct Assessment {
+    pub store: Store,
+    pub verdict: Verdict,
+}
+
 // What the list of an input's query is: whether the query is safe-range, its columns, and whether infinitely many rows satisfy it, or how many do. A refusal
 // comes with nothing else.
 pub struct Listing {
@@ -52,7 +58,7 @@ pub fn room() -> [u32; ROOM]
 }
 
 // What a refused input holds: no relation and no record, no node and no column.
-fn refused(number: u8, place: u8) -> Input
+fn refused(number: u8, place: u64) -> Input
     ensures { λ i. ⌜ i ≡ refusal number place ⌝ }
 {
     let reading = query::refused(number, place);
@@ -70,11 +76,12 @@ fn refused(number: u8, place: u8) -> Input
 fn take(bytes: &[u8]) -> Input
     ensures { λ i. ⌜ i ≡ input-of (now (bytes .entry)) ⌝ }
 {
-    if !part::is_whole(bytes) {
+    let extent = part::measure(bytes);
+    if !extent.whole {
         return refused(2, 0);
     }
     let widths = part::widths(bytes);
-    let n = part::count(bytes);
+    let n = extent.count;
     let from = HEAD + RECORD * n;
     let reading = query::read(&bytes[from..], widths);
     let answer = reading.answer;
@@ -97,22 +104,37 @@ fn take(bytes: &[u8]) -> Input
     }
 }
 
-// The verdict on the query of an input: causes 2, then 1 and 3 to 10, then 13 and 15.
-pub fn judge(bytes: &[u8]) -> Verdict
-    ensures { λ v. ⌜ v ≡ judged-of (now (bytes .entry)) ⌝ }
+// The store of an input beside the verdict on its query: causes 2, then 1 and 3 to 10, then 13 and 15.
+fn assess(bytes: &[u8]) -> Assessment
+    ensures { λ a. ⌜ a ≡ assessed (now (bytes .entry)) ⌝ }
 {
     let input = take(bytes);
     let answer = input.answer;
+    let store = input.store;
     let query = input.query;
     let columns = input.columns;
     if let Answer::Refused(number, place) = answer {
-        return verdict::refused(number, place, query, columns);
+        return Assessment {
+            store,
+            verdict: verdict::refused(number, place, query, columns),
+        };
     }
-    verdict::judged(query, columns)
+    Assessment {
+        store,
+        verdict: verdict::judged(query, columns),
+    }
+}
+
+// The verdict on the query of an input: the causes of `assess`.
+pub fn judge(bytes: &[u8]) -> Verdict
+    ensures { λ v. ⌜ v ≡ judged-of (now (bytes .entry)) ⌝ }
+{
+    let assessment = assess(bytes);
+    assessment.verdict
 }
 
 // The reply of a refusal, with the columns of a refused input: none.
-fn refused_listing(number: u8, place: u8) -> Listing
+fn refused_listing(number: u8, place: u64) -> Listing
     ensures { λ l. ⌜ l ≡ declined number place ⌝ }
 {
     let reading = query::refused(number, place);
@@ -148,16 +170,16 @@ fn list(found: Found, safe: bool, columns: Columns) -> Listing
 pub fn find(bytes: &[u8], out: &mut [u32]) -> Listing
     ensures { λ l. ⌜ (l, now (out .exit)) ≡ listing-of (now (bytes .entry)) (now (out .entry)) ⌝ }
 {
-    let input = take(bytes);
-    let answer = input.answer;
+    let assessment = assess(bytes);
+    let verdict = assessment.verdict;
+    let answer = verdict.answer;
     if let Answer::Refused(number, place) = answer {
         return refused_listing(number, place);
     }
-    let store = input.store;
-    let query = input.query;
-    let columns = input.columns;
-    let verdict = verdict::judged(query, columns);
-    let found = answer::evaluate(store, query, columns, out);
+    let store = assessment.store;
+    let form = verdict.form;
+    let columns = verdict.columns;
+    let found = answer::evaluate(store, form, columns, out);
     list(found, verdict.safe, columns)
 }
 
@@ -165,15 +187,15 @@ pub fn find(bytes: &[u8], out: &mut [u32]) -> Listing
 pub fn find_bytes(bytes: &[u8], out: &mut [u8]) -> Listing
     ensures { λ l. ⌜ (l, now (out .exit)) ≡ byte-listing-of (now (bytes .entry)) (now (out .entry)) ⌝ }
 {
-    let input = take(bytes);
-    let answer = input.answer;
+    let assessment = assess(bytes);
+    let verdict = assessment.verdict;
+    let answer = verdict.answer;
     if let Answer::Refused(number, place) = answer {
         return refused_listing(number, place);
     }
-    let store = input.store;
-    let query = input.query;
-    let columns = input.columns;
-    let verdict = verdict::judged(query, columns);
-    let found = answer::evaluate_bytes(store, query, columns, out);
+    let store = assessment.store;
+    let form = verdict.form;
+    let columns = verdict.columns;
+    let found = answer::evaluate_bytes(store, form, columns, out);
     list(found, verdict.safe, columns)
 }

@@ -1,5 +1,5 @@
-// The parts of a packed input: whether they are all there, the widths, the record count, and the records, which fill a store. For `take` alone (the module is
-// not public): it asks for bytes that are there, having judged the length by `is_whole` first.
+// The parts of a packed input: whether they are all there, the record count, the widths, and the records, which fill a store. For `take` alone (the module is
+// not public): it asks for bytes that are there, having judged the length by `measure` first.
 use crate::HEAD;
 use crate::LIMIT;
 use crate::RECORD;
@@ -11,10 +11,17 @@ ghost use Prim.Native.Nat.{_+_, _*_, _≤_, _<_};
 ghost use lib.ListN.{length};
 ghost use Rattle.calculus.specs.Lists.{tabulate};
 ghost use Rattle.tables.specs.Code.Fill.{beginning, collect-all};
-ghost use Rattle.packed.specs.Packed.{is-whole, widths-in, count-in, record-from, record-at};
+ghost use Rattle.packed.specs.Packed.{widths-in, count-in, record-from, record-at};
+ghost use Rattle.packed.specs.Code.Packed.{no-extent, extent-of};
+
+// How far an input reaches: whether it is whole, and then the number of its records.
+pub struct Extent {
+    pub whole: bool,
+    pub count: usize,
+}
 
 // The number of records.
-pub fn count(bytes: &[u8]) -> usize
+fn count(bytes: &[u8]) -> usize
     requires { ⌜ 18 ≤ length (now bytes) ⌝ }
     ensures { λ n. ⌜ (n ≡ count-in (now (bytes .entry))) × (n < 65536) ⌝ }
 {
@@ -23,18 +30,32 @@ pub fn count(bytes: &[u8]) -> usize
     (high * 256 + low) as usize
 }
 
-// Whether the bytes reach to the query, and are at most 8,192. Where not, cause 2 is met.
-pub fn is_whole(bytes: &[u8]) -> bool
-    ensures { λ r. ⌜ r ≡ is-whole (now (bytes .entry)) ⌝ }
+// The extent of an input that ends before its query, or is over 8,192 bytes: cause 2 is met.
+fn broken() -> Extent
+    ensures { λ e. ⌜ e ≡ no-extent ⌝ }
+{
+    Extent {
+        whole: false,
+        count: 0,
+    }
+}
+
+// How far the bytes reach: they are whole where they are at most 8,192 and reach to the query.
+pub fn measure(bytes: &[u8]) -> Extent
+    ensures { λ e. ⌜ e ≡ extent-of (now (bytes .entry)) ⌝ }
 {
     let n = bytes.len();
     if LIMIT < n {
-        return false;
+        return broken();
     }
     if n < HEAD {
-        return false;
+        return broken();
     }
-    HEAD + RECORD * count(bytes) <= n
+    let count = count(bytes);
+    if n < HEAD + RECORD * count {
+        return broken();
+    }
+    Extent { whole: true, count }
 }
 
 // The sixteen widths.

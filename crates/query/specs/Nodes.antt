@@ -1,11 +1,12 @@
 -- Packed nodes: document 01, "The packed query". A node is a 32-bit number whose fields stand most significant first. Definitions only; the laws are in
--- Nodes/Laws.antt.
-use Prim.Native.Nat.{ℕ, zero, suc, _+_, _/_, _%_}
+-- Nodes/Words.antt and Nodes/Laws.antt.
+use Prim.Native.Nat.{ℕ, zero, suc, _+_, _*_, _/_, _%_}
 use mathlib.Core.Bool.{Bool, true, false, not, _&&_, _||_, cond}
 use mathlib.Core.List.{List, [], _∷_}
 use lib.ListN.{length, getD, take, drop}
 use lib.Dec.{eqb, leb}
 use Rattle.calculus.specs.Sets.{any-of, union-of}
+pub mod Words
 pub mod Sums
 pub mod Laws
 
@@ -58,6 +59,47 @@ children w = by-kind [] [] [] (left w ∷ []) (left w ∷ right w ∷ []) (left 
 abbrev pub used-terms : ℕ → List ℕ
 used-terms w = by-kind [] (take (term-count w) (terms w)) (equal-term w ∷ []) [] [] [] [] [] w
 
+-- The bits past the fields of each kind.
+abbrev pub truth-rest : ℕ → ℕ
+truth-rest w = w % 268435456
+
+abbrev pub record-rest : ℕ → ℕ
+record-rest w = w % 4
+
+abbrev pub equality-rest : ℕ → ℕ
+equality-rest w = w % 1048576
+
+abbrev pub not-rest : ℕ → ℕ
+not-rest w = w % 8388608
+
+-- Of an and, an or.
+abbrev pub join-rest : ℕ → ℕ
+join-rest w = w % 131072
+
+abbrev pub exists-rest : ℕ → ℕ
+exists-rest w = w % 524288
+
+-- ---- the words: the node of each kind that has these fields
+
+abbrev pub truth-word : Bool → ℕ
+truth-word b = cond b 268435456 0
+
+abbrev pub record-word : ℕ → ℕ → ℕ → ℕ → ℕ → ℕ → ℕ
+record-word r n a b c d = 536870912 + r * 33554432 + n * 4194304 + (a * 131072 + b * 4096 + c * 128 + d * 4)
+
+abbrev pub equality-word : ℕ → ℕ → ℕ
+equality-word x t = 2 * 536870912 + x * 33554432 + t * 1048576
+
+abbrev pub not-word : ℕ → ℕ
+not-word l = 3 * 536870912 + l * 8388608
+
+-- An and (kind 4) or an or (kind 5).
+abbrev pub join-word : ℕ → ℕ → ℕ → ℕ
+join-word k l r = k * 536870912 + l * 8388608 + r * 131072
+
+abbrev pub exists-word : ℕ → ℕ → ℕ
+exists-word x c = 6 * 536870912 + x * 33554432 + c * 524288
+
 -- ---- the causes that name a node
 
 abbrev pub nonzero : ℕ → Bool
@@ -67,13 +109,13 @@ nonzero n = not (eqb n 0)
 abbrev pub malformed : ℕ → Bool
 malformed w =
     by-kind
-    (nonzero (w % 268435456))
-    (nonzero (w % 4) || any-of nonzero (drop (term-count w) (terms w)))
-    (nonzero (w % 1048576))
-    (nonzero (w % 8388608))
-    (nonzero (w % 131072))
-    (nonzero (w % 131072))
-    (nonzero (w % 524288))
+    (nonzero (truth-rest w))
+    (nonzero (record-rest w) || any-of nonzero (drop (term-count w) (terms w)))
+    (nonzero (equality-rest w))
+    (nonzero (not-rest w))
+    (nonzero (join-rest w))
+    (nonzero (join-rest w))
+    (nonzero (exists-rest w))
     true
     w
 

@@ -2,14 +2,14 @@
 -- in Packing/Laws.antt.
 use Prim.Native.Nat.{ℕ, _+_, _*_, _-_, _/_, _%_, _≤_, _<_, _^_}
 use mathlib.Core.Path.{_≡_}
-use mathlib.Core.Bool.{Bool, cond}
+use mathlib.Core.Bool.{Bool}
 use mathlib.Core.List.{List, [], _∷_, _++_, map}
 use lib.ListN.{length, getD}
 use Rattle.calculus.specs.Sets.{In, union-of}
 use Rattle.calculus.specs.Formula.{Term, var, con, Fmla, truth, rel, eq, neg, conj, disj, exists, size}
 use Rattle.calculus.specs.Satisfaction.{Pool}
 use Rattle.calculus.specs.Generators.{columns}
-use Rattle.query.specs.Nodes.{children}
+use Rattle.query.specs.Nodes.{children, truth-word, record-word, equality-word, not-word, join-word, exists-word}
 use Rattle.query.specs.Decoding.{formula-at}
 use Rattle.query.specs.Reading.{max-nodes, max-constants, max-columns}
 pub mod Bytes
@@ -29,18 +29,15 @@ term-code (con p) = 16 + p
 abbrev pub code-at : List Term → ℕ → ℕ
 code-at ts i = getD (map term-code ts) i 0
 
-abbrev pub terms-code : List Term → ℕ
-terms-code ts = code-at ts 0 * 131072 + code-at ts 1 * 4096 + code-at ts 2 * 128 + code-at ts 3 * 4
-
 -- The nodes of a formula, numbered from n.
 abbrev pub words : Fmla → ℕ → List ℕ
-words (truth b) n = cond b 268435456 0 ∷ []
-words (rel r ts) n = (536870912 + r * 33554432 + length ts * 4194304 + terms-code ts) ∷ []
-words (eq x t) n = (2 * 536870912 + x * 33554432 + term-code t * 1048576) ∷ []
-words (neg φ) n = words φ n ++ ((3 * 536870912 + (n + size φ - 1) * 8388608) ∷ [])
-words (conj φ ψ) n = words φ n ++ (words ψ (n + size φ) ++ ((4 * 536870912 + (n + size φ - 1) * 8388608 + (n + size φ + size ψ - 1) * 131072) ∷ []))
-words (disj φ ψ) n = words φ n ++ (words ψ (n + size φ) ++ ((5 * 536870912 + (n + size φ - 1) * 8388608 + (n + size φ + size ψ - 1) * 131072) ∷ []))
-words (exists x φ) n = words φ n ++ ((6 * 536870912 + x * 33554432 + (n + size φ - 1) * 524288) ∷ [])
+words (truth b) n = truth-word b ∷ []
+words (rel r ts) n = record-word r (length ts) (code-at ts 0) (code-at ts 1) (code-at ts 2) (code-at ts 3) ∷ []
+words (eq x t) n = equality-word x (term-code t) ∷ []
+words (neg φ) n = words φ n ++ (not-word (n + size φ - 1) ∷ [])
+words (conj φ ψ) n = words φ n ++ (words ψ (n + size φ) ++ (join-word 4 (n + size φ - 1) (n + size φ + size ψ - 1) ∷ []))
+words (disj φ ψ) n = words φ n ++ (words ψ (n + size φ) ++ (join-word 5 (n + size φ - 1) (n + size φ + size ψ - 1) ∷ []))
+words (exists x φ) n = words φ n ++ (exists-word x (n + size φ - 1) ∷ [])
 
 -- ---- bytes, high byte first
 

@@ -4,10 +4,10 @@ use crate::COLUMNS;
 use crate::Columns;
 use crate::NODES;
 use crate::VARIABLES;
+use crate::node;
 ghost use Rattle.query.specs.Reading.{max-nodes};
 ghost use mathlib.Core.Path.{_≡_};
 ghost use mathlib.Core.Bool.{false};
-ghost use mathlib.Core.List.{[], _∷_};
 ghost use Prim.Native.Nat.{_≤_, _<_};
 ghost use lib.ListN.{getD, take};
 ghost use Rattle.calculus.specs.Sets.{member};
@@ -16,53 +16,28 @@ ghost use Rattle.calculus.specs.Generators.{columns as columns-read};
 ghost use Rattle.query.specs.Decoding.{root};
 ghost use Rattle.query.specs.Code.Free.{free-in, columns-found};
 
-// Whether x is among the first count terms.
-fn among(x: u32, count: u32, a: u32, b: u32, c: u32, d: u32) -> bool
-    ensures { λ r. ⌜ r ≡ member x (take count (a ∷ b ∷ c ∷ d ∷ [])) ⌝ }
-{
-    if count == 0 {
-        return false;
-    }
-    if x == a {
-        return true;
-    }
-    if count == 1 {
-        return false;
-    }
-    if x == b {
-        return true;
-    }
-    if count == 2 {
-        return false;
-    }
-    if x == c {
-        return true;
-    }
-    if count == 3 {
-        return false;
-    }
-    x == d
-}
-
 // Whether variable x is free in a node, given of which nodes before it that holds.
 fn free_in_node(w: u32, x: u32, before: &[bool; NODES]) -> bool
     ensures { λ r. ⌜ r ≡ free-in x w (λ c. getD (now (before .entry)) c false) ⌝ }
 {
-    let kind = w / 536870912;
-    let left = (w / 8388608 % 64) as usize;
-    let right = (w / 131072 % 64) as usize;
-    let under = (w / 524288 % 64) as usize;
-    let variable = w / 33554432 % 16;
+    let f = node::fields(w);
+    let kind = f.kind;
+    let count = f.count;
+    let terms = f.terms;
+    let variable = f.variable;
+    let term = f.term;
+    let left = f.left;
+    let right = f.right;
+    let under = f.under;
     match kind {
-        1 => among(
-            x,
-            w / 4194304 % 8,
-            w / 131072 % 32,
-            w / 4096 % 32,
-            w / 128 % 32,
-            w / 4 % 32,
+        1 => node::some_of(
+            count,
+            x == terms[0],
+            x == terms[1],
+            x == terms[2],
+            x == terms[3],
         ),
-        2 => x == variable || x == w / 1048576 % 32,
+        2 => x == variable || x == term,
         3 => before[left],
         4 | 5 => before[left] || before[right],
         6 => x != variable && before[under],

@@ -48,7 +48,7 @@ pub fn header(bytes: &[u8], widths: [u8; RELATIONS]) -> Answer
 
 // One more use of node c.
 fn bump(counts: &mut [u8; NODES], c: usize)
-    requires { ⌜ (c < 64) × (getD (now counts) c 0 < 255) ⌝ }
+    requires { ⌜ (c < max-nodes) × (getD (now counts) c 0 < 255) ⌝ }
     ensures { λ _. ⌜ now (counts .exit) ≡ set (now (counts .entry)) c (getD (now (counts .entry)) c 0 + 1) ⌝ }
 {
     counts[c] = counts[c] + 1;
@@ -56,15 +56,16 @@ fn bump(counts: &mut [u8; NODES], c: usize)
 
 // The uses counted so far, and those by the child fields of the node w.
 fn count(counts: &mut [u8; NODES], w: u32)
-    requires { ⌜ ((c : ℕ) → c < 64 → getD (now counts) c 0 < 254) ⌝ }
+    requires { ⌜ ((c : ℕ) → c < max-nodes → getD (now counts) c 0 < 254) ⌝ }
     ensures { λ _. ⌜ now (counts .exit) ≡ counted-with (now (counts .entry)) w ⌝ }
 {
     // As a slice: that gives the proof the length.
     let _all: &[u8] = counts;
-    let kind = w / 536870912;
-    let left = (w / 8388608 % 64) as usize;
-    let right = (w / 131072 % 64) as usize;
-    let under = (w / 524288 % 64) as usize;
+    let f = node::fields(w);
+    let kind = f.kind;
+    let left = f.left;
+    let right = f.right;
+    let under = f.under;
     match kind {
         3 => bump(counts, left),
         4 | 5 => {
@@ -164,19 +165,19 @@ pub fn tree<'a>(
     let counts = count_uses(nodes, n);
     let malformed = lowest_fault(6, nodes, n, &counts, constants, widths);
     if malformed < n {
-        return Answer::Refused(6, malformed as u8);
+        return Answer::Refused(6, malformed as u64);
     }
     let misplaced = lowest_fault(7, nodes, n, &counts, constants, widths);
     if misplaced < n {
-        return Answer::Refused(7, misplaced as u8);
+        return Answer::Refused(7, misplaced as u64);
     }
     let stray = lowest_fault(8, nodes, n, &counts, constants, widths);
     if stray < n {
-        return Answer::Refused(8, stray as u8);
+        return Answer::Refused(8, stray as u64);
     }
     let mismatched = lowest_fault(9, nodes, n, &counts, constants, widths);
     if mismatched < n {
-        return Answer::Refused(9, mismatched as u8);
+        return Answer::Refused(9, mismatched as u64);
     }
     Answer::Done
 }

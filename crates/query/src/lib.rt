@@ -5,7 +5,7 @@
 // constants and nodes of those that it accepts, with the query's columns.
 mod free;
 mod judge;
-mod node;
+pub mod node;
 mod unpack;
 
 use causes::Answer;
@@ -47,7 +47,7 @@ pub struct Reading {
 }
 
 // The reply of a refusal. For calls that are refused before they read a query, too.
-pub fn refused(number: u8, place: u8) -> Reading
+pub fn refused(number: u8, place: u64) -> Reading
     ensures { λ r. ⌜ r ≡ refusal number place ⌝ }
 {
     let query = Query {

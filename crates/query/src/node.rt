@@ -1,12 +1,104 @@
-// The faults of one node: causes 6 to 9. A node's first 3 bits are its kind; its fields follow, most significant first.
+// A packed node: its fields, its word, and its faults (causes 6 to 9). A node is a 32-bit number whose first 3 bits are its kind; its fields follow, most
+// significant first. Only this module knows where they stand: everybody else reads a node by `fields` and writes one by the functions of its kind.
 use causes::RELATIONS;
 ghost use mathlib.Core.Path.{_≡_};
-ghost use Prim.Native.Nat.{_<_};
+ghost use Prim.Native.Nat.{_≤_, _<_};
 ghost use mathlib.Core.List.{[], _∷_};
 ghost use lib.ListN.{take, drop};
 ghost use lib.Dec.{leb};
 ghost use Rattle.calculus.specs.Sets.{any-of};
-ghost use Rattle.query.specs.Nodes.{nonzero, children, malformed, is-stray, strays, mismatched};
+ghost use Rattle.query.specs.Nodes.{nonzero, children, malformed, is-stray, strays, mismatched, not-word, join-word, exists-word};
+ghost use Rattle.query.specs.Reading.{max-nodes};
+ghost use Rattle.query.specs.Code.Fields.{NodeOf, same};
+
+// The words of the truth values.
+pub const FALSE: u32 = 0;
+
+pub const TRUE: u32 = 268435456;
+
+// The fields of a node, under their names in specs/Nodes. A node has those of its kind; the others are what stands at their bits.
+pub struct Node {
+    pub kind: u32,
+    pub truth: u32,
+    pub relation: u32,
+    pub count: u32,
+    pub terms: [u32; 4],
+    pub variable: u32,
+    pub term: u32,
+    pub left: usize,
+    pub right: usize,
+    pub under: usize,
+}
+
+// The fields of a node.
+pub fn fields(w: u32) -> Node
+    ensures { λ f. ⌜ NodeOf w f ⌝ }
+{
+    Node {
+        kind: w / 536870912,
+        truth: w / 268435456 % 2,
+        relation: w / 33554432 % 16,
+        count: w / 4194304 % 8,
+        terms: [w / 131072 % 32, w / 4096 % 32, w / 128 % 32, w / 4 % 32],
+        variable: w / 33554432 % 16,
+        term: w / 1048576 % 32,
+        left: (w / 8388608 % 64) as usize,
+        right: (w / 131072 % 64) as usize,
+        under: (w / 524288 % 64) as usize,
+    }
+}
+
+// A not over a node.
+pub fn negation(child: usize) -> u32
+    requires { ⌜ child < max-nodes ⌝ }
+    ensures { λ w. ⌜ w ≡ not-word child ⌝ }
+{
+    3 * 536870912 + child as u32 * 8388608
+}
+
+// An and (kind 4) or an or (kind 5) over two nodes.
+pub fn junction(kind: u32, left: usize, right: usize) -> u32
+    requires { ⌜ (4 ≤ kind) × (kind ≤ 5) × (left < max-nodes) × (right < max-nodes) ⌝ }
+    ensures { λ w. ⌜ w ≡ join-word kind left right ⌝ }
+{
+    kind * 536870912 + left as u32 * 8388608 + right as u32 * 131072
+}
+
+// An exists over a node.
+pub fn existence(variable: u32, child: usize) -> u32
+    requires { ⌜ (variable < 16) × (child < max-nodes) ⌝ }
+    ensures { λ w. ⌜ w ≡ exists-word variable child ⌝ }
+{
+    6 * 536870912 + variable * 33554432 + child as u32 * 524288
+}
+
+// Whether one of the first count of four tests is true.
+pub fn some_of(count: u32, a: bool, b: bool, c: bool, d: bool) -> bool
+    ensures { λ r. ⌜ r ≡ any-of same (take count (a ∷ b ∷ c ∷ d ∷ [])) ⌝ }
+{
+    if count == 0 {
+        return false;
+    }
+    if a {
+        return true;
+    }
+    if count == 1 {
+        return false;
+    }
+    if b {
+        return true;
+    }
+    if count == 2 {
+        return false;
+    }
+    if c {
+        return true;
+    }
+    if count == 3 {
+        return false;
+    }
+    d
+}
 
 // Whether one of the terms past the count is set.
 fn set_past(count: u32, a: u32, b: u32, c: u32, d: u32) -> bool
@@ -89,47 +181,18 @@ fn is_past(constants: u32, term: u32) -> bool
     constants <= term % 16
 }
 
-// Whether one of the first count terms is a constant at or past the count of constants.
-fn past_among(constants: u32, count: u32, a: u32, b: u32, c: u32, d: u32) -> bool
-    ensures { λ r. ⌜ r ≡ any-of (is-stray constants) (take count (a ∷ b ∷ c ∷ d ∷ [])) ⌝ }
-{
-    if count == 0 {
-        return false;
-    }
-    if is_past(constants, a) {
-        return true;
-    }
-    if count == 1 {
-        return false;
-    }
-    if is_past(constants, b) {
-        return true;
-    }
-    if count == 2 {
-        return false;
-    }
-    if is_past(constants, c) {
-        return true;
-    }
-    if count == 3 {
-        return false;
-    }
-    is_past(constants, d)
-}
-
 // Cause 8: a constant's place at or past the count.
 pub fn has_stray(constants: u32, w: u32) -> bool
     ensures { λ r. ⌜ r ≡ strays constants w ⌝ }
 {
     let kind = w / 536870912;
     match kind {
-        1 => past_among(
-            constants,
+        1 => some_of(
             w / 4194304 % 8,
-            w / 131072 % 32,
-            w / 4096 % 32,
-            w / 128 % 32,
-            w / 4 % 32,
+            is_past(constants, w / 131072 % 32),
+            is_past(constants, w / 4096 % 32),
+            is_past(constants, w / 128 % 32),
+            is_past(constants, w / 4 % 32),
         ),
         2 => is_past(constants, w / 1048576 % 32),
         _ => false,

@@ -12,9 +12,9 @@ use Rattle.calculus.specs.Sets.Laws.{union-append}
 use Rattle.calculus.specs.Rows.{Row, numbers}
 use Rattle.answer.specs.Code.Listing.{cut}
 use Rattle.answer.specs.Code.Listing.Cut.{length-cut, cut-width, cut-next, position-within}
-use Rattle.standing.specs.View.{lines, stored}
+use Rattle.standing.specs.View.{max-rows, row-places, stored}
 use Rattle.answer.specs.Code.Listing.Rows.{numbers-width}
-use Rattle.standing.specs.View.Laws.{length-lines, getD-lines, line-taken, width-rows, stored-next}
+use Rattle.standing.specs.View.Laws.{length-row-places, getD-row-places, row-at-taken, width-rows, stored-next}
 use Rattle.standing.specs.Change.{fronted}
 
 -- ---- numbers from one list to another
@@ -28,12 +28,12 @@ carried-next from before out start at c h l e =
 
 -- ---- rows of k numbers
 
--- A row from a running position on ends within 2,048 numbers.
-pub position-small : (k i n at : ℕ) → k ≤ 4 → n ≤ 512 → i < n → at ≡ i * k → at + k ≤ 2048
-position-small k i n at few h l e = position-within k i n at 2048 l e (mul-le-mul h few)
+-- A row from a running position on ends within the places of a list.
+pub position-small : (k i n at : ℕ) → k ≤ 4 → n ≤ max-rows → i < n → at ≡ i * k → at + k ≤ 4 * max-rows
+position-small k i n at few h l e = position-within k i n at (4 * max-rows) l e (mul-le-mul h few)
 
 -- One row more in its place.
-pub spread-next : (k i n at : ℕ) (given values : List ℕ) → k ≤ 4 → n ≤ 512 → n * k ≤ length given → i < n → at ≡ i * k → values ≡ stored (cut k i given) .values → paste values (4 * i) (drop at given) k ≡ stored (cut k (i + 1) given) .values
+pub spread-next : (k i n at : ℕ) (given values : List ℕ) → k ≤ 4 → n ≤ max-rows → n * k ≤ length given → i < n → at ≡ i * k → values ≡ stored (cut k i given) .values → paste values (4 * i) (drop at given) k ≡ stored (cut k (i + 1) given) .values
 spread-next k i n at given values few h l t e f =
     let within : i * k + k ≤ length given = position-within k i n (i * k) (length given) t refl l in
     let size : length (cut k i given) ≡ i = length-cut k i given in
@@ -55,19 +55,19 @@ fronted-next rows r buffer at k e f =
     rest : List ℕ
     rest = drop (length front) buffer
 
--- The first k values of the first i lines.
+-- The first k values at each of the first i row places.
 abbrev pub first-rows : ℕ → ℕ → List ℕ → List Row
-first-rows k i values = map (take k) (take i (lines values))
+first-rows k i values = map (take k) (take i (row-places values))
 
-first-next : (k i : ℕ) (values : List ℕ) → k ≤ 4 → i < 512 → length values ≡ 2048 → first-rows k (i + 1) values ≡ first-rows k i values ++ (take k (drop (4 * i) values) ∷ [])
+first-next : (k i : ℕ) (values : List ℕ) → k ≤ 4 → i < max-rows → length values ≡ 4 * max-rows → first-rows k (i + 1) values ≡ first-rows k i values ++ (take k (drop (4 * i) values) ∷ [])
 first-next k i values few h e =
     ap (λ m. first-rows k m values) (add-one i)
-    ∙ ap (map (take k)) (take-suc (lines values) i [] (omega (arith, length-lines values)))
-    ∙ map-append (take k) (take i (lines values)) (getD (lines values) i [] ∷ [])
-    ∙ ap (λ r. first-rows k i values ++ (r ∷ [])) (ap (take k) (getD-lines values i h ∙ sym (line-taken values i (omega arith))) ∙ take-take k 4 (drop (4 * i) values) few)
+    ∙ ap (map (take k)) (take-suc (row-places values) i [] (omega (arith, length-row-places values)))
+    ∙ map-append (take k) (take i (row-places values)) (getD (row-places values) i [] ∷ [])
+    ∙ ap (λ r. first-rows k i values ++ (r ∷ [])) (ap (take k) (getD-row-places values i h ∙ sym (row-at-taken values i (omega arith))) ∙ take-take k 4 (drop (4 * i) values) few)
 
 -- One row more at the front of a buffer.
-pub gather-next : (k i at : ℕ) (values before out : List ℕ) → k ≤ 4 → i < 512 → length values ≡ 2048 → at ≡ i * k → out ≡ fronted (first-rows k i values) before → paste out at (drop (4 * i) values) k ≡ fronted (first-rows k (i + 1) values) before
+pub gather-next : (k i at : ℕ) (values before out : List ℕ) → k ≤ 4 → i < max-rows → length values ≡ 4 * max-rows → at ≡ i * k → out ≡ fronted (first-rows k i values) before → paste out at (drop (4 * i) values) k ≡ fronted (first-rows k (i + 1) values) before
 gather-next k i at values before out few h e f g =
     ap (λ ns. paste ns at (drop (4 * i) values) k) g
     ∙ fronted-next (first-rows k i values) (take k (drop (4 * i) values)) before at k
@@ -76,4 +76,4 @@ gather-next k i at values before out few h e f g =
     ∙ ap (λ rows. fronted rows before) (sym (first-next k i values few h e))
   where
     size : length (first-rows k i values) ≡ i
-    size = length-map (take i (lines values)) (take k) ∙ length-take-le i (lines values) (omega (arith, length-lines values))
+    size = length-map (take i (row-places values)) (take k) ∙ length-take-le i (row-places values) (omega (arith, length-row-places values))

@@ -1,4 +1,4 @@
--- A put or removal (`apply`) reads the query and judges the list, then alters the record, then settles; at each of the three it comes to the reply of
+-- A put or removal (`apply`) reads the query and judges the list, then alters the record, then maintains the list; at each of the three it comes to the reply of
 -- `change-of`, and what the next one asks for holds.
 use Prim.Native.Nat.{ℕ, _≤_, _<_, _^_}
 use mathlib.Core.Path.{_≡_, refl, sym, ap, subst, subst⁻¹, _∙_}
@@ -17,18 +17,18 @@ use Rattle.tables.specs.Store.{capacity, held, judgement}
 use Rattle.tables.specs.Store.Laws.{reflects-layout, judged-layout}
 use Rattle.tables.specs.Change.{reply}
 use Rattle.query.specs.declared.Reading.{Reading}
-use Rattle.query.specs.Reading.{formula}
+use Rattle.query.specs.Reading.{formula, read-of}
 use Rattle.answer.specs.Reply.{query-read}
-use Rattle.answer.specs.Code.Reply.{Evaluable}
+use Rattle.answer.specs.Code.Reply.{Answerable}
 use Rattle.standing.specs.declared.View.{View}
 use Rattle.standing.specs.declared.Change.{Change}
 use Rattle.standing.specs.View.{suits}
 use Rattle.standing.specs.Checks.{Kind, view-checks, record-checks}
 use Rattle.standing.specs.Change.{begin-checks, ready-checks, refusal, store-after, change-of}
-use Rattle.standing.specs.Code.Change.{readied, Suits, altered, settled}
-use Rattle.standing.specs.Change.Laws.{begun-judged, begun-evaluable}
+use Rattle.standing.specs.Code.Change.{readied, Suits, altered, maintained}
+use Rattle.standing.specs.Change.Laws.{readied-cause, begun-judged, begun-answerable, readied-is}
 use Rattle.standing.specs.Change.Stores.{altered-is, after-judged}
-use Rattle.standing.specs.Change.Calls.{change-unready, change-refused, change-settled}
+use Rattle.standing.specs.Change.Calls.{change-unready, change-refused, change-maintained}
 
 -- A call of a kind, with what `ready` read.
 pub record Begun : Type 0 where
@@ -65,7 +65,7 @@ module _ (b : Begun) where
 
   -- The answer read is the first of the causes 1 to 10 and 12.
   ready-cause : (a : Answer) → b .reading .answer ≡ a → first-cause (ready-checks (b .store) (b .view) (b .bytes)) ≡ a
-  ready-cause a e = ap (λ r. r .answer) (sym (b .reads)) ∙ e
+  ready-cause a e = readied-cause (b .store) (b .bytes) (b .view) a (ap (λ r. r .answer) (sym (b .reads)) ∙ e)
 
   -- The reply where one of them is met.
   pub unready : {c : Change} (n p : ℕ) → b .reading .answer ≡ Refused n p → c ≡ refusal n p (b .store) (b .view) → (c, (b .joined, b .left)) ≡ replied b
@@ -83,14 +83,18 @@ module _ (b : Begun) where
     store-judged : judgement (b .store) ≡ Done
     store-judged = begun-judged (b .store) (b .bytes) begin-done
 
+    -- The query is read.
+    reading-is : b .reading ≡ read-of (b .store .widths) (b .bytes)
+    reading-is = b .reads ∙ readied-is (b .store) (b .bytes) begin-done (b .view) ready-done
+
     -- What the call of `tables` asks for.
     pub few-records : b .store .count ≤ capacity
     few-records = reflected (reflects-layout (b .store)) (judged-layout (b .store) store-judged .1) .count-fits
 
-    -- What `settle` asks for: the list suits the query,
+    -- What `maintain` asks for: the list suits the query,
     pub list-suits : Suits (b .view) (b .reading .query)
     list-suits =
-        subst⁻¹ (λ r. Suits (b .view) (r .query)) (b .reads)
+        subst⁻¹ (λ r. Suits (b .view) (r .query)) reading-is
         (first-passed 12 (suits (b .view) cols) [] (later-done (begin-checks (b .store) (b .bytes)) (view-checks (b .view) cols) ready-done) .0)
 
     module _ {changed : Changed} (changes : changed ≡ altered (b .kind) (b .store) (b .tuple)) where
@@ -112,16 +116,16 @@ module _ (b : Begun) where
         store-is = ap (λ c. c .store) changed-is ∙ ap (λ a. reply a (b .store) after .store) (record-cause Done altered-done)
 
         -- and the query can be evaluated over the store after the change.
-        pub evaluable : Evaluable (changed .store) (b .reading .query) (b .reading .columns)
-        evaluable =
-            subst⁻¹ (λ t. Evaluable t (b .reading .query) (b .reading .columns)) store-is
-            (subst⁻¹ (λ r. Evaluable after (r .query) (r .columns)) (b .reads)
-            (begun-evaluable (b .store) (b .bytes) begin-done
-            (subst (λ r. (i : ℕ) → getD (r .query .constants) i 0 < 2 ^ 32) (b .reads) (b .constants-fit))
+        pub answerable : Answerable (changed .store) (b .reading .query) (b .reading .columns)
+        answerable =
+            subst⁻¹ (λ t. Answerable t (b .reading .query) (b .reading .columns)) store-is
+            (subst⁻¹ (λ r. Answerable after (r .query) (r .columns)) reading-is
+            (begun-answerable (b .store) (b .bytes) begin-done
+            (subst (λ r. (i : ℕ) → getD (r .query .constants) i 0 < 2 ^ 32) reading-is (b .constants-fit))
             after refl (after-judged (b .store) (b .tuple) store-judged (b .kind) (record-cause Done altered-done))))
 
-        -- The reply is the one that `settle` comes to.
-        pub settles : settled (b .store) (changed .store) (b .view) (b .reading .query) (b .joined) (b .left) ≡ replied b
-        settles =
-            (λ i. settled (b .store) (store-is i) (b .view) (b .reads i .query) (b .joined) (b .left))
-            ∙ sym (change-settled (b .kind) (b .store) (b .view) (b .bytes) (b .tuple) (b .joined) (b .left) ready-done (record-cause Done altered-done))
+        -- The reply is the one that `maintain` comes to.
+        pub maintains : maintained (b .store) (changed .store) (b .view) (b .reading .query) (b .joined) (b .left) ≡ replied b
+        maintains =
+            (λ i. maintained (b .store) (store-is i) (b .view) (reading-is i .query) (b .joined) (b .left))
+            ∙ sym (change-maintained (b .kind) (b .store) (b .view) (b .bytes) (b .tuple) (b .joined) (b .left) ready-done (record-cause Done altered-done))

@@ -11,7 +11,7 @@ use borrow.Author.Tests.{eq-eqb, ne-eqb, eqb-true, eqb-false, not-true, not-fals
 use Rattle.calculus.specs.Reflects.Laws.{reflected, reflects-T, reflects-false, reflects-same, reflects-eqb}
 use Rattle.calculus.specs.Lists.Laws.{all-of-getD}
 use Rattle.query.specs.declared.Columns.{Columns}
-use Rattle.standing.specs.declared.Line.{Line}
+use Rattle.standing.specs.declared.Quad.{Quad}
 use Rattle.standing.specs.Code.View.{values-of}
 use Rattle.standing.specs.View.{ends}
 
@@ -31,7 +31,7 @@ zero-by : (v : ℕ) → not (eqb v 0) ≡ false → eqb 0 v ≡ true
 zero-by v e = eq-eqb 0 v (sym (eqb-true v 0 (not-false (eqb v 0) e)))
 
 -- It does where each value that the code looks at is zero.
-pub ends-holds : (k : ℕ) (x : Line) → (k ≡ 0 → not (eqb (x .first) 0) ≡ false) → (k ≤ 1 → not (eqb (x .second) 0) ≡ false) → (k ≤ 2 → not (eqb (x .third) 0) ≡ false) → (k ≤ 3 → not (eqb (x .fourth) 0) ≡ false) → true ≡ ends k (values-of x)
+pub ends-holds : (k : ℕ) (x : Quad) → (k ≡ 0 → not (eqb (x .first) 0) ≡ false) → (k ≤ 1 → not (eqb (x .second) 0) ≡ false) → (k ≤ 2 → not (eqb (x .third) 0) ≡ false) → (k ≤ 3 → not (eqb (x .fourth) 0) ≡ false) → true ≡ ends k (values-of x)
 ends-holds zero x p q r s = rw (zero-by (x .first) (p refl), zero-by (x .second) (q (omega arith)), zero-by (x .third) (r (omega arith)), zero-by (x .fourth) (s (omega arith)))
 ends-holds (suc zero) x p q r s = rw (zero-by (x .second) (q (omega arith)), zero-by (x .third) (r (omega arith)), zero-by (x .fourth) (s (omega arith)))
 ends-holds (suc (suc zero)) x p q r s = rw (zero-by (x .third) (r (omega arith)), zero-by (x .fourth) (s (omega arith)))

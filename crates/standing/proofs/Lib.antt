@@ -2,5 +2,5 @@ pub mod Carrying
 pub mod Walking
 pub mod Judging
 pub mod Opening
-pub mod Settling
+pub mod Maintaining
 pub mod Changing

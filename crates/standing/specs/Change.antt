@@ -21,6 +21,7 @@ use Rattle.standing.specs.View.{rows-in, kept, view-of}
 use Rattle.standing.specs.Checks.{Kind, view-checks, record-checks, records-after, is-over, report-checks}
 pub mod Laws
 pub mod Stores
+pub mod Places
 pub mod Calls
 pub mod Turn
 
@@ -30,7 +31,7 @@ pub mod Turn
 abbrev pub begin-checks : Store → List ℕ → List Check
 begin-checks s bs = store-checks s ++ read-checks (s .widths) bs
 
--- Cause 17 at an opening: over 512 rows.
+-- Cause 17 at an opening: over `max-rows` rows.
 abbrev pub over-checks : Result → List Check
 over-checks found = check 17 (when (is-over (length (kept found)))) ∷ []
 

@@ -40,7 +40,7 @@ abbrev pub records-after : Kind → Record → List Record → List Record
 records-after put r held = insert record-below r held
 records-after removal r held = without r held
 
--- Cause 17: over 512 rows, or one of the three counts past what 64 bits hold.
+-- Cause 17: over `max-rows` rows, or one of the three counts past what 64 bits hold.
 abbrev pub is-over : ℕ → Bool
 is-over rows = ltb max-rows rows
 

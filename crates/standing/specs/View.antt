@@ -25,20 +25,20 @@ max-rows = 512
 -- ---- rows in their places
 
 -- The four values at row place i.
-abbrev pub line-at : List ℕ → ℕ → Row
-line-at vs i = getD vs (4 * i) 0 ∷ getD vs (4 * i + 1) 0 ∷ getD vs (4 * i + 2) 0 ∷ getD vs (4 * i + 3) 0 ∷ []
+abbrev pub row-at : List ℕ → ℕ → Row
+row-at vs i = getD vs (4 * i) 0 ∷ getD vs (4 * i + 1) 0 ∷ getD vs (4 * i + 2) 0 ∷ getD vs (4 * i + 3) 0 ∷ []
 
 -- All row places, in order.
-unfoldable pub lines : List ℕ → List Row
-lines vs = tabulate (line-at vs) max-rows
+unfoldable pub row-places : List ℕ → List Row
+row-places vs = tabulate (row-at vs) max-rows
 
--- The row places of the rows held.
-abbrev pub lines-held : Rows → List Row
-lines-held r = take (r .count) (lines (r .values))
+-- The rows held, each in its four places.
+abbrev pub held-rows : Rows → List Row
+held-rows r = take (r .count) (row-places (r .values))
 
 -- The row places past the count.
-abbrev pub lines-unused : Rows → List Row
-lines-unused r = drop (r .count) (lines (r .values))
+abbrev pub unused-places : Rows → List Row
+unused-places r = drop (r .count) (row-places (r .values))
 
 -- Whether a list is zero from place k on.
 abbrev pub ends : ℕ → List ℕ → Bool
@@ -56,19 +56,19 @@ columns-in v = variables-in (v .columns)
 
 -- The rows that a list holds.
 abbrev pub rows-in : View → List Row
-rows-in v = map (take (v .columns .count)) (lines-held (v .rows))
+rows-in v = map (take (v .columns .count)) (held-rows (v .rows))
 
 -- The layout of a list's columns: at most four, each below 16, ascending, and unused places zero.
 abbrev pub columns-fit : View → Bool
 columns-fit v = leb (v .columns .count) max-columns && all-of (λ c. ltb c 16) (columns-in v) && is-ascending ltb (columns-in v) && ends (v .columns .count) (v .columns .variables)
 
--- The layout of a list's rows: at most 512, strictly ascending, and unused places of rows and values zero.
+-- The layout of a list's rows: at most `max-rows`, strictly ascending, and unused places of rows and values zero.
 abbrev pub rows-fit : View → Bool
 rows-fit v =
     leb (v .rows .count) max-rows
     && is-ascending row-below (rows-in v)
-    && all-of (ends (v .columns .count)) (lines-held (v .rows))
-    && all-of (ends 0) (lines-unused (v .rows))
+    && all-of (ends (v .columns .count)) (held-rows (v .rows))
+    && all-of (ends 0) (unused-places (v .rows))
 
 -- The layout of a list's mark and counts: an endless list has no rows; rows at opening plus joined are left plus rows held, as whole numbers.
 abbrev pub counts-fit : View → Bool

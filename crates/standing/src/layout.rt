@@ -13,12 +13,12 @@ ghost use Rattle.calculus.specs.Sets.{all-of};
 ghost use Rattle.calculus.specs.Order.{is-ascending};
 ghost use Rattle.calculus.specs.Rows.{row-below};
 ghost use Rattle.query.specs.Reading.{variables-in};
-ghost use Rattle.standing.specs.View.{max-rows, lines, ends, suits, QueryColumns};
+ghost use Rattle.standing.specs.View.{max-rows, row-places, ends, suits, QueryColumns};
 
 // Whether each of the first count rows is zero past its first k values.
 fn all_end(values: &[u32; NUMBERS], count: usize, k: usize) -> bool
     requires { ⌜ count ≤ max-rows ⌝ }
-    ensures { λ r. ⌜ r ≡ all-of (ends k) (take count (lines (now (values .entry)))) ⌝ }
+    ensures { λ r. ⌜ r ≡ all-of (ends k) (take count (row-places (now (values .entry)))) ⌝ }
 {
     let mut i = 0;
     while i < count {
@@ -33,7 +33,7 @@ fn all_end(values: &[u32; NUMBERS], count: usize, k: usize) -> bool
 // Whether every place from the count on is zero.
 fn rest_zero(values: &[u32; NUMBERS], count: usize) -> bool
     requires { ⌜ count ≤ max-rows ⌝ }
-    ensures { λ r. ⌜ r ≡ all-of (ends 0) (drop count (lines (now (values .entry)))) ⌝ }
+    ensures { λ r. ⌜ r ≡ all-of (ends 0) (drop count (row-places (now (values .entry)))) ⌝ }
 {
     let mut i = count;
     while i < ROWS {
@@ -48,7 +48,7 @@ fn rest_zero(values: &[u32; NUMBERS], count: usize) -> bool
 // Whether the first count rows are strictly ascending, in their four places.
 fn all_ascend(values: &[u32; NUMBERS], count: usize) -> bool
     requires { ⌜ count ≤ max-rows ⌝ }
-    ensures { λ r. ⌜ r ≡ is-ascending row-below (take count (lines (now (values .entry)))) ⌝ }
+    ensures { λ r. ⌜ r ≡ is-ascending row-below (take count (row-places (now (values .entry)))) ⌝ }
 {
     let mut i = 1;
     while i < count {

@@ -1,7 +1,7 @@
 // Rows in their places, made of numbers one row after the other and turned into them, and the rows of one list that another has not. The lists have at most
-// 512 rows of at most four columns, as every list in the layout and every answer that passed cause 17.
-use crate::Line;
+// `ROWS` rows of at most four columns, as every list in the layout and every answer that passed cause 17.
 use crate::NUMBERS;
+use crate::Quad;
 use crate::Rows;
 use crate::row;
 ghost use mathlib.Core.Path.{_≡_};
@@ -12,7 +12,7 @@ ghost use Rattle.calculus.specs.Sets.{any-of, same-list};
 ghost use Rattle.calculus.specs.Order.{Ascending};
 ghost use Rattle.calculus.specs.Rows.{row-below, only-in};
 ghost use Rattle.answer.specs.Code.Listing.{cut};
-ghost use Rattle.standing.specs.View.{max-rows, lines, lines-held, stored};
+ghost use Rattle.standing.specs.View.{max-rows, row-places, held-rows, stored};
 ghost use Rattle.standing.specs.Code.View.{InOrder, values-of, Passed, Parted};
 ghost use Rattle.standing.specs.Change.{fronted};
 
@@ -42,9 +42,9 @@ pub fn spread(numbers: &[u32], k: usize, n: usize) -> Rows
 }
 
 // The first place from j on, of the first m, whose row is not below x; every row before j is.
-fn skip(ys: &[u32; NUMBERS], m: usize, j: usize, x: Line) -> usize
-    requires { ⌜ (m ≤ max-rows) × Passed (take m (lines (now ys))) j (values-of x) ⌝ }
-    ensures { λ r. ⌜ Parted (take m (lines (now (ys .entry)))) r (values-of x) ⌝ }
+fn skip(ys: &[u32; NUMBERS], m: usize, j: usize, x: Quad) -> usize
+    requires { ⌜ (m ≤ max-rows) × Passed (take m (row-places (now ys))) j (values-of x) ⌝ }
+    ensures { λ r. ⌜ Parted (take m (row-places (now (ys .entry)))) r (values-of x) ⌝ }
 {
     let mut p = j;
     while p < m {
@@ -57,9 +57,9 @@ fn skip(ys: &[u32; NUMBERS], m: usize, j: usize, x: Line) -> usize
 }
 
 // Whether x is one of the first m rows, which are ascending: it can stand only at place j.
-fn stands(ys: &[u32; NUMBERS], m: usize, j: usize, x: Line) -> bool
-    requires { ⌜ (m ≤ max-rows) × Ascending row-below (take m (lines (now ys))) × Parted (take m (lines (now ys))) j (values-of x) ⌝ }
-    ensures { λ r. ⌜ r ≡ any-of (same-list (values-of x)) (take m (lines (now (ys .entry)))) ⌝ }
+fn stands(ys: &[u32; NUMBERS], m: usize, j: usize, x: Quad) -> bool
+    requires { ⌜ (m ≤ max-rows) × Ascending row-below (take m (row-places (now ys))) × Parted (take m (row-places (now ys))) j (values-of x) ⌝ }
+    ensures { λ r. ⌜ r ≡ any-of (same-list (values-of x)) (take m (row-places (now (ys .entry)))) ⌝ }
 {
     if m <= j {
         return false;
@@ -70,7 +70,7 @@ fn stands(ys: &[u32; NUMBERS], m: usize, j: usize, x: Line) -> bool
 // The rows of the first list that the second has not; both are ascending.
 pub fn only_in(a: Rows, b: Rows) -> Rows
     requires { ⌜ InOrder a × InOrder b ⌝ }
-    ensures { λ r. ⌜ r ≡ stored (only-in (lines-held a) (lines-held b)) ⌝ }
+    ensures { λ r. ⌜ r ≡ stored (only-in (held-rows a) (held-rows b)) ⌝ }
 {
     let xs = a.values;
     let ys = b.values;
@@ -95,7 +95,7 @@ pub fn only_in(a: Rows, b: Rows) -> Rows
 // The first k values of each row, one row after the other at the front of a list.
 pub fn gather(rows: Rows, k: usize, out: &mut [u32])
     requires { ⌜ (k ≤ 4) × (rows .count ≤ max-rows) × (rows .count * k ≤ length (now out)) ⌝ }
-    ensures { λ _. ⌜ now (out .exit) ≡ fronted (map (take k) (lines-held rows)) (now (out .entry)) ⌝ }
+    ensures { λ _. ⌜ now (out .exit) ≡ fronted (map (take k) (held-rows rows)) (now (out .entry)) ⌝ }
 {
     let values = rows.values;
     let n = rows.count;

@@ -1,22 +1,22 @@
 // One row in its four places: read, the order of two of them, whether one ends after so many values, and numbers carried from one list to another. Reading
-// asks for a place below 512, which a caller that goes over the rows of a list has.
-use crate::Line;
+// asks for one of the row places, which a caller that goes over the rows of a list has.
 use crate::NUMBERS;
+use crate::Quad;
 ghost use mathlib.Core.Path.{_≡_};
 ghost use mathlib.Core.List.{_++_};
 ghost use Prim.Native.Nat.{_+_, _≤_, _<_};
 ghost use lib.ListN.{length, take, drop};
 ghost use Rattle.calculus.specs.Sets.{same-list};
 ghost use Rattle.calculus.specs.Rows.{row-below};
-ghost use Rattle.standing.specs.View.{max-rows, line-at, ends};
+ghost use Rattle.standing.specs.View.{max-rows, row-at, ends};
 ghost use Rattle.standing.specs.Code.View.{values-of};
 
 // The row at place i.
-pub fn read(values: &[u32; NUMBERS], i: usize) -> Line
+pub fn read(values: &[u32; NUMBERS], i: usize) -> Quad
     requires { ⌜ i < max-rows ⌝ }
-    ensures { λ r. ⌜ values-of r ≡ line-at (now (values .entry)) i ⌝ }
+    ensures { λ r. ⌜ values-of r ≡ row-at (now (values .entry)) i ⌝ }
 {
-    Line {
+    Quad {
         first: values[4 * i],
         second: values[4 * i + 1],
         third: values[4 * i + 2],
@@ -25,7 +25,7 @@ pub fn read(values: &[u32; NUMBERS], i: usize) -> Line
 }
 
 // Whether one row is below another.
-pub fn below(a: Line, b: Line) -> bool
+pub fn below(a: Quad, b: Quad) -> bool
     ensures { λ r. ⌜ r ≡ row-below (values-of a) (values-of b) ⌝ }
 {
     if a.first != b.first {
@@ -41,7 +41,7 @@ pub fn below(a: Line, b: Line) -> bool
 }
 
 // Whether two rows are the same.
-pub fn same(a: Line, b: Line) -> bool
+pub fn same(a: Quad, b: Quad) -> bool
     ensures { λ r. ⌜ r ≡ same-list (values-of a) (values-of b) ⌝ }
 {
     if a.first != b.first {
@@ -57,7 +57,7 @@ pub fn same(a: Line, b: Line) -> bool
 }
 
 // Whether a row is zero past its first k values.
-pub fn ends(x: Line, k: usize) -> bool
+pub fn ends(x: Quad, k: usize) -> bool
     ensures { λ r. ⌜ r ≡ ends k (values-of x) ⌝ }
 {
     if k == 0 && x.first != 0 {

@@ -35,28 +35,22 @@ fn byte(s: &[u8], i: usize) -> u8 {
     if i < s.len() { s[i] } else { 0 }
 }
 
-fn wide(b: u8) -> u32
-    ensures { λ r. ⌜ r < 256 ⌝ }
-{
-    b as u32
-}
-
 fn pair(s: &[u8], i: usize) -> usize
     requires { ⌜ i < 1000000 ⌝ }
     ensures { λ r. ⌜ r < 65536 ⌝ }
 {
-    let high = wide(byte(s, i));
-    let low = wide(byte(s, i + 1));
+    let high = query::wide(byte(s, i));
+    let low = query::wide(byte(s, i + 1));
     (high * 256 + low) as usize
 }
 
 fn quad(s: &[u8], i: usize) -> u32
     requires { ⌜ i < 1000000 ⌝ }
 {
-    let a = wide(byte(s, i));
-    let b = wide(byte(s, i + 1));
-    let c = wide(byte(s, i + 2));
-    let d = wide(byte(s, i + 3));
+    let a = query::wide(byte(s, i));
+    let b = query::wide(byte(s, i + 1));
+    let c = query::wide(byte(s, i + 2));
+    let d = query::wide(byte(s, i + 3));
     ((a * 256 + b) * 256 + c) * 256 + d
 }
 
@@ -128,15 +122,21 @@ fn hex_long(n: u64) {
     io::print_hex(1, n, 16);
 }
 
-fn refused(number: u8, place: u8) {
+fn refused(number: u8, place: u64) {
     io::write_all(1, b" refused");
     word(number as u64);
-    word(place as u64);
+    word(place);
 }
 
 // The parts of a record.
 fn parts(r: Record) -> [u32; 5] {
-    [wide(r.relation), r.first, r.second, r.third, r.fourth]
+    [
+        query::wide(r.relation),
+        r.first,
+        r.second,
+        r.third,
+        r.fourth,
+    ]
 }
 
 fn list_record(r: Record) {
@@ -179,7 +179,7 @@ fn sum_of(s: Store) -> u64 {
     let mut i = 0;
     while i < 256 {
         if i < 16 {
-            h = mixed(h, wide(widths[i]));
+            h = mixed(h, query::wide(widths[i]));
         }
         h = mixed_record(h, tables::place::read(&relations, &values, i));
         i += 1;
@@ -243,10 +243,10 @@ fn list_numbers(s: &[u32], n: usize, as_words: bool) {
 fn variables_of(c: Columns) -> [u32; 4] {
     let variables = c.variables;
     [
-        wide(variables[0]),
-        wide(variables[1]),
-        wide(variables[2]),
-        wide(variables[3]),
+        query::wide(variables[0]),
+        query::wide(variables[1]),
+        query::wide(variables[2]),
+        query::wide(variables[3]),
     ]
 }
 
@@ -474,7 +474,7 @@ fn step(input: &[u8], at: usize) -> usize
 {
     let kind = byte(input, at);
     let name = at + 4;
-    let body = name + wide(byte(input, at + 1)) as usize;
+    let body = name + query::wide(byte(input, at + 1)) as usize;
     let end = body + pair(input, at + 2);
     if input.len() < end {
         io::write_all(1, b"input ends early\n");

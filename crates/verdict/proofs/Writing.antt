@@ -1,6 +1,6 @@
 -- Laws of the values of the form's functions. An array holds the words so far, with zeros after them; what a function does to it is what a node does to the
 -- words; and by the laws of the form, a node makes of its children's forms its own.
-use Prim.Native.Nat.{ℕ, suc, _+_, _*_, _-_, _≤_, _<_}
+use Prim.Native.Nat.{ℕ, suc, _+_, _-_, _≤_, _<_}
 use native.Mathlib.Omega.{arith}
 use mathlib.Core.Path.{_≡_, refl, sym, ap, subst, subst⁻¹, _∙_}
 use mathlib.Core.Logic.{inl, inr}
@@ -17,7 +17,7 @@ use Rattle.calculus.specs.Formula.{Fmla, truth, neg, exists, fv, size}
 use Rattle.calculus.specs.Propagation.{is-truth as is-a-truth, cp}
 use Rattle.calculus.specs.Propagation.Laws.{TruthView, a-truth, no-truth, truth-view, join, cp-join, join-unit-left, join-zero-left, size-cp}
 use Rattle.causes.specs.Causes.{widths-fit}
-use Rattle.query.specs.Nodes.{kind, variable, left, right, under, children, malformed, mismatched}
+use Rattle.query.specs.Nodes.{kind, variable, left, right, under, children, malformed, mismatched, not-word, join-word, exists-word}
 use Rattle.query.specs.Nodes.Laws.{both-children}
 use Rattle.query.specs.Decoding.{node-formula, formula-at, root}
 use Rattle.query.specs.declared.Query.{Query}
@@ -123,7 +123,7 @@ module _ (out : List ℕ) (end : ℕ) (some : 1 ≤ end) (room : end < max-nodes
   pub negated-true : getD out (end - 1) 0 ≡ true-word → (end, set out (end - 1) 0) ≡ written (negated (take end out))
   negated-true h = rw (last-is, h) (over 0)
 
-  pub negated-other : (getD out (end - 1) 0 ≡ 0 → ⊥) → (getD out (end - 1) 0 ≡ true-word → ⊥) → {p : ℕ × List ℕ} → p ≡ written (take end out ++ ((1610612736 + (end - 1) * 8388608) ∷ [])) → p ≡ written (negated (take end out))
+  pub negated-other : (getD out (end - 1) 0 ≡ 0 → ⊥) → (getD out (end - 1) 0 ≡ true-word → ⊥) → {p : ℕ × List ℕ} → p ≡ written (take end out ++ (not-word (end - 1) ∷ [])) → p ≡ written (negated (take end out))
   negated-other f t q = rw (ne-eqb (last (take end out)) 0 (λ h. f (sym last-is ∙ h)), ne-eqb (last (take end out)) true-word (λ h. t (sym last-is ∙ h)), count) q
 
   -- Cut to the first of them.
@@ -131,7 +131,7 @@ module _ (out : List ℕ) (end : ℕ) (some : 1 ≤ end) (room : end < max-nodes
   held-first now at h n = (λ i. (sym (length-take-le at out (omega (arith, places out end (omega arith) e))) i, n i)) ∙ ap written (sym (take-take at end out h))
 
   module _ (k at middle : ℕ) where
-    pub joined-other : (kind (getD out (end - 1) 0) ≡ 0 → ⊥) → {p : ℕ × List ℕ} → p ≡ written (take end out ++ ((k * 536870912 + (middle - 1) * 8388608 + (end - 1) * 131072) ∷ [])) → p ≡ written (joined k at middle (take end out))
+    pub joined-other : (kind (getD out (end - 1) 0) ≡ 0 → ⊥) → {p : ℕ × List ℕ} → p ≡ written (take end out ++ (join-word k (middle - 1) (end - 1) ∷ [])) → p ≡ written (joined k at middle (take end out))
     joined-other f q = rw (last-is, ne-eqb (kind (getD out (end - 1) 0)) 0 f, count) q
 
     module _ (h : kind (getD out (end - 1) 0) ≡ 0) where
@@ -141,7 +141,7 @@ module _ (out : List ℕ) (end : ℕ) (some : 1 ≤ end) (room : end < max-nodes
       pub joined-zero : (now : List ℕ) → at ≤ end → now ≡ padded max-nodes 0 (take at out) → (getD out (end - 1) 0 ≡ unit-word k → ⊥) → {p : ℕ × List ℕ} → p ≡ written (take at now ++ (getD out (end - 1) 0 ∷ [])) → p ≡ written (joined k at middle (take end out))
       joined-zero now l n u q = rw (last-is, eq-eqb (kind (getD out (end - 1) 0)) 0 h, ne-eqb (getD out (end - 1) 0) (unit-word k) u) (q ∙ ap (λ ys. written (ys ++ (getD out (end - 1) 0 ∷ []))) (front-is now at (take at (take end out)) (held-first now at l n)))
 
-  pub quantified-kept : (x : ℕ) → member x (fv (root (take end out))) ≡ true → {p : ℕ × List ℕ} → p ≡ written (take end out ++ ((3221225472 + x * 33554432 + (end - 1) * 524288) ∷ [])) → p ≡ written (quantified x (take end out))
+  pub quantified-kept : (x : ℕ) → member x (fv (root (take end out))) ≡ true → {p : ℕ × List ℕ} → p ≡ written (take end out ++ (exists-word x (end - 1) ∷ [])) → p ≡ written (quantified x (take end out))
   quantified-kept x f q = rw (f, count) q
 
   pub quantified-dropped : (x : ℕ) → member x (fv (root (take end out))) ≡ false → (end, out) ≡ written (quantified x (take end out))

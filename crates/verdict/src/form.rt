@@ -4,6 +4,7 @@
 // drops is set to zero again. The parts ask for room in the array: a form has at most as many nodes as its query, which cause 4 has judged.
 use query::NODES;
 use query::Query;
+use query::node;
 ghost use mathlib.Core.Path.{_≡_};
 ghost use mathlib.Core.List.{[], _∷_, _++_};
 ghost use Prim.Native.Nat.{_+_, _≤_, _<_};
@@ -16,9 +17,6 @@ ghost use Rattle.query.specs.Reading.{max-nodes};
 ghost use Rattle.query.specs.Packing.{words};
 ghost use Rattle.verdict.specs.Code.Form.{written, settled, negated, joined, unit-word, quantified, InQuery, IsAccepted};
 ghost use Rattle.verdict.specs.Form.{form-of};
-
-// The word of the truth value true; that of false is 0.
-const TRUE: u32 = 268435456;
 
 // One word more.
 fn push(out: &mut [u32; NODES], at: usize, w: u32) -> usize
@@ -45,8 +43,11 @@ fn cut(out: &mut [u32; NODES], at: usize, end: usize)
 fn equality(w: u32) -> u32
     ensures { λ r. ⌜ r ≡ settled w ⌝ }
 {
-    if w / 33554432 % 16 == w / 1048576 % 32 {
-        return TRUE;
+    let f = node::fields(w);
+    let variable = f.variable;
+    let term = f.term;
+    if variable == term {
+        return node::TRUE;
     }
     w
 }
@@ -60,15 +61,15 @@ fn negate(out: &mut [u32; NODES], end: usize) -> usize
     let all: &[u32] = out;
     let top = end - 1;
     let last = all[top];
-    if last == 0 {
-        out[top] = TRUE;
+    if last == node::FALSE {
+        out[top] = node::TRUE;
         return end;
     }
-    if last == TRUE {
-        out[top] = 0;
+    if last == node::TRUE {
+        out[top] = node::FALSE;
         return end; // as many words as before
     }
-    push(out, end, 1610612736 + top as u32 * 8388608)
+    push(out, end, node::negation(top))
 }
 
 // An and (kind 4) or an or (kind 5) over the last two subtrees, the first of them no truth value. It starts at `at`, and the second at `middle`.
@@ -80,12 +81,10 @@ fn join(kind: u32, out: &mut [u32; NODES], at: usize, middle: usize, end: usize)
     // As a slice: that gives the proof the length.
     let all: &[u32] = out;
     let last = all[end - 1];
-    if last / 536870912 != 0 {
-        return push(
-            out,
-            end,
-            kind * 536870912 + (middle as u32 - 1) * 8388608 + (end as u32 - 1) * 131072,
-        );
+    let top = node::fields(last);
+    let top_kind = top.kind;
+    if top_kind != 0 {
+        return push(out, end, node::junction(kind, middle - 1, end - 1));
     }
     if last == unit(kind) {
         cut(out, middle, end);
@@ -100,9 +99,9 @@ fn unit(kind: u32) -> u32
     ensures { λ r. ⌜ r ≡ unit-word kind ⌝ }
 {
     if kind == 4 {
-        return TRUE;
+        return node::TRUE;
     }
-    0
+    node::FALSE
 }
 
 // An exists over the last subtree: kept where its variable is free there.
@@ -111,11 +110,7 @@ fn quantify(out: &mut [u32; NODES], end: usize, x: u32) -> usize
     ensures { λ r. ⌜ (r, now (out .exit)) ≡ written (quantified x (take end (now (out .entry)))) ⌝ }
 {
     if query::is_free(out, end, x) {
-        return push(
-            out,
-            end,
-            3221225472 + x * 33554432 + (end as u32 - 1) * 524288,
-        );
+        return push(out, end, node::existence(x, end - 1));
     }
     end
 }
@@ -129,10 +124,12 @@ fn propagate<'a>(nodes: &'a [u32; NODES], i: usize, out: &mut [u32; NODES], at: 
     // As a slice: that gives the proof the length.
     let all: &[u32] = nodes;
     let w = all[i];
-    let kind = w / 536870912;
-    let left = (w / 8388608 % 64) as usize;
-    let right = (w / 131072 % 64) as usize;
-    let under = (w / 524288 % 64) as usize;
+    let f = node::fields(w);
+    let kind = f.kind;
+    let variable = f.variable;
+    let left = f.left;
+    let right = f.right;
+    let under = f.under;
     match kind {
         2 => push(out, at, equality(w)),
         3 => {
@@ -142,7 +139,9 @@ fn propagate<'a>(nodes: &'a [u32; NODES], i: usize, out: &mut [u32; NODES], at: 
         4 | 5 => {
             let middle = propagate(nodes, left, out, at);
             let first = out[middle - 1];
-            if first / 536870912 == 0 {
+            let top = node::fields(first);
+            let top_kind = top.kind;
+            if top_kind == 0 {
                 if first != unit(kind) {
                     return middle;
                 }
@@ -154,7 +153,7 @@ fn propagate<'a>(nodes: &'a [u32; NODES], i: usize, out: &mut [u32; NODES], at: 
         }
         6 => {
             let end = propagate(nodes, under, out, at);
-            quantify(out, end, w / 33554432 % 16)
+            quantify(out, end, variable)
         }
         _ => push(out, at, w),
     }

@@ -32,7 +32,7 @@ pub struct Verdict {
 }
 
 // The reply of a refusal, with the query and the columns that the reader hands back then: none. For calls that read the query themselves, too.
-pub fn refused(number: u8, place: u8, form: Query, columns: Columns) -> Verdict
+pub fn refused(number: u8, place: u64, form: Query, columns: Columns) -> Verdict
     ensures { λ v. ⌜ v ≡ refusal-with number place form columns ⌝ }
 {
     Verdict {

@@ -5,19 +5,13 @@ use crate::source;
 use query::COLUMNS;
 use query::Columns;
 use query::NODES;
+use query::node;
 ghost use mathlib.Core.Path.{_≡_};
 ghost use Prim.Native.Nat.{ℕ, _≤_, _<_};
 ghost use Rattle.calculus.specs.Sets.{In};
 ghost use Rattle.query.specs.Reading.{max-columns, variables-in};
 ghost use Rattle.verdict.specs.Code.Form.{IsForm};
 ghost use Rattle.verdict.specs.Code.Generating.{sets-of, numbers-of, missing-from, unranged-in};
-
-// A variable's number.
-fn wide(b: u8) -> u32
-    ensures { λ r. ⌜ r ≡ b ⌝ }
-{
-    b as u32
-}
 
 // The generators of each column.
 pub fn generators<'a>(
@@ -36,7 +30,7 @@ pub fn generators<'a>(
     let mut numbers = [0u64; COLUMNS];
     let mut c = 0;
     while c < count {
-        let x = wide(variables[c]);
+        let x = query::wide(variables[c]);
         numbers[c] = source::plain(nodes, plains, denieds, n, n - 1, x);
         c += 1;
     }
@@ -53,7 +47,7 @@ pub fn ungenerated(set: u16, columns: Columns) -> u16
     let mut missing: u16 = 0;
     let mut c = 0;
     while c < count {
-        let x = wide(variables[c]);
+        let x = query::wide(variables[c]);
         if !bits::is_in(x, set) {
             missing = missing | bits::term_bit(x);
         }
@@ -73,9 +67,12 @@ pub fn unranged<'a>(nodes: &'a [u32; NODES], plains: &'a [u16; NODES], n: usize)
     let mut i = 0;
     while i < n {
         let w = all[i];
-        let under = (w / 524288 % 64) as usize;
-        if w / 536870912 == 6 {
-            if !bits::is_in(w / 33554432 % 16, plains[under]) {
+        let f = node::fields(w);
+        let kind = f.kind;
+        let variable = f.variable;
+        let under = f.under;
+        if kind == 6 {
+            if !bits::is_in(variable, plains[under]) {
                 found = found | bits::node_bit(i);
             }
         }

@@ -3,6 +3,7 @@
 // both ask for the nodes of a form with these sets, and for one of the 16 variables.
 use crate::bits;
 use query::NODES;
+use query::node;
 ghost use mathlib.Core.Path.{_≡_};
 ghost use Prim.Native.Nat.{_<_};
 ghost use Rattle.verdict.specs.Code.Form.{IsForm};
@@ -12,9 +13,11 @@ ghost use Rattle.verdict.specs.Code.Generating.{sets-of, plain-nodes, de
 fn other(w: u32, x: u32) -> u32
     ensures { λ y. ⌜ y ≡ other-side w x ⌝ }
 {
-    let variable = w / 33554432 % 16;
+    let f = node::fields(w);
+    let variable = f.variable;
+    let term = f.term;
     if x == variable {
-        return w / 1048576 % 32;
+        return term;
     }
     variable
 }
@@ -35,10 +38,11 @@ pub fn plain<'a>(
     // As a slice: that gives the proof the length.
     let all: &[u32] = nodes;
     let w = all[i];
-    let kind = w / 536870912;
-    let left = (w / 8388608 % 64) as usize;
-    let right = (w / 131072 % 64) as usize;
-    let under = (w / 524288 % 64) as usize;
+    let f = node::fields(w);
+    let kind = f.kind;
+    let left = f.left;
+    let right = f.right;
+    let under = f.under;
     if !bits::is_in(x, plains[i]) {
         return 0;
     }
@@ -78,9 +82,10 @@ pub fn denied<'a>(
     // As a slice: that gives the proof the length.
     let all: &[u32] = nodes;
     let w = all[i];
-    let kind = w / 536870912;
-    let left = (w / 8388608 % 64) as usize;
-    let right = (w / 131072 % 64) as usize;
+    let f = node::fields(w);
+    let kind = f.kind;
+    let left = f.left;
+    let right = f.right;
     if !bits::is_in(x, denieds[i]) {
         return 0;
     }

@@ -1,12 +1,14 @@
--- The entry meets its contract: what the change told, as one number. At most 512 rows join and leave, so the number has its 64 bits.
+-- The entry meets its contract: what the change told, as one number. At most `max-rows` rows join and leave, so the number has its 64 bits.
 use Prim.Native.Nat.{_≤_}
 use native.Mathlib.Omega.{arith}
 use borrow.Author.Needs.{needs}
 use mathlib.Core.Path.{_≡_, subst⁻¹, _∙_}
 use lib.ListN.{length}
+use Rattle.standing.specs.View.{max-rows}
 use Rattle.standing.specs.Checks.{kind-of}
 use Rattle.standing.specs.Change.Calls.{FewTold, few-told}
-use Rattle.bench.specs.Entry.Laws.{change-over, change-refused, change-done}
+use Rattle.standing.specs.Change.Places.{change-place}
+use Rattle.bench.specs.Entry.Laws.{change-over, change-at, change-refused, change-done}
 use Rattle.bench.proofs.palmrummy_change.Statement.{statement}
 use Rattle.bench.proofs.palmrummy_change.Tie as tie
 
@@ -14,11 +16,11 @@ use Rattle.bench.proofs.palmrummy_change.Tie as tie
 places : (v : tie.After-view-of) → length (v .view-of .result .columns .variables) ≡ 4
 places v = search needs
 
--- At most 512 rows joined, and at most 512 left.
+-- At most `max-rows` rows joined, and at most as many left.
 abbrev changed : tie.After-enum-told → tie.After-change
 changed c = c .before .before .before .before .before .before
 
-few : (c : tie.After-enum-told) → (changed c .change .result .joined ≤ 512) × (changed c .change .result .left ≤ 512)
+few : (c : tie.After-enum-told) → (changed c .change .result .joined ≤ max-rows) × (changed c .change .result .left ≤ max-rows)
 few c =
     let r = changed c .before .before .before in
     let s = r .before .before .before .before .before .before .args in
@@ -40,7 +42,12 @@ enum-known-answer : tie.Need-enum-known-answer
 enum-known-answer c = search needs
 
 refused-requires : tie.Need-refused-requires
-refused-requires c κs = search needs
+refused-requires c κs =
+    let a = c .before in
+    let g = a .before .before .before .before .before .before in
+    let r = g .before .before .before in
+    let s = r .before .before .before .before .before .before .args in
+    omega (arith, change-at (g .change .ensures) _ _ (a .answer .given .1), change-place (kind-of (s .removal)) (r .before .before .store-of .result) (r .before .view-of .result) (s .bytes .now) (r .record-of .result) (s .joined .now) (s .left .now))
 
 same-length : tie.Need-same-length
 same-length c = search needs

@@ -1,7 +1,9 @@
 -- The entry meets its contract: what was found, as one number.
+use native.Mathlib.Omega.{arith}
 use borrow.Author.Needs.{needs}
 use mathlib.Core.Path.{_∙_}
-use Rattle.bench.specs.Entry.Laws.{found-over, coded-refused, coded-endless, coded-rows}
+use Rattle.answer.specs.Reply.Places.{found-place}
+use Rattle.bench.specs.Entry.Laws.{found-over, found-at, coded-refused, coded-endless, coded-rows}
 use Rattle.bench.proofs.palmrummy_find.Statement.{statement}
 use Rattle.bench.proofs.palmrummy_find.Tie as tie
 
@@ -15,7 +17,9 @@ enum-known-answer : tie.Need-enum-known-answer
 enum-known-answer c = search needs
 
 refused-requires : tie.Need-refused-requires
-refused-requires c κs = search needs
+refused-requires c κs =
+    let a = c .before in let f = a .before .before .before .before in let s = f .before .before .before .before .before .args in
+    omega (arith, found-at (f .find .ensures) _ _ (a .answer .given .1), found-place (f .before .before .store-of .result) (s .bytes .now) (s .wanted) (s .out .now))
 
 same-length : tie.Need-same-length
 same-length c = search needs

@@ -1,10 +1,11 @@
--- The numbers returned, by what was found and by what a change told: the rows that joined and left are at most 512 each, since the rows found anew passed cause
--- 17, and those held before are in the layout.
+-- The numbers returned, by what was found and by what a change told: the rows that joined and left are at most `max-rows` each, since the rows found anew
+-- passed cause 17, and those held before are in the layout.
 use Prim.Native.Nat.{ℕ, _+_, _*_}
 use mathlib.Core.Path.{_≡_, sym, ap, _∙_}
 use mathlib.Core.Bool.{Bool, true, false, cond}
 use mathlib.Core.List.{List}
 use Rattle.causes.specs.declared.Answer.the-variants.{Done, Refused}
+use Rattle.causes.specs.Causes.{place}
 use Rattle.tables.specs.declared.Record.{Record}
 use Rattle.tables.specs.declared.Store.{Store}
 use Rattle.answer.specs.declared.Found.{Found}
@@ -23,6 +24,10 @@ module _ {f : Found} {out : List ℕ} {x : Found × List ℕ} (e : (f, out) ≡ 
   pub coded-refused : (n p m : ℕ) → f .answer ≡ Refused n p → m ≡ refusal n p → (m, out) ≡ coded x
   coded-refused n p m a r = ap (λ k. (k, out)) r ∙ ap (λ b. (code b (f .endless) (f .rows), out)) (sym a) ∙ ap coded e
 
+  -- A refusal's place is that of the reply.
+  pub found-at : (n p : ℕ) → f .answer ≡ Refused n p → p ≡ place (x .0 .answer)
+  found-at n p a = ap place (sym a) ∙ ap (λ q. place (q .0 .answer)) e
+
   pub coded-endless : f .answer ≡ Done → f .endless ≡ true → (9223372036854775808, out) ≡ coded x
   coded-endless a b = ap (λ c. (cond c 9223372036854775808 (f .rows), out)) (sym b) ∙ ap (λ b. (code b (f .endless) (f .rows), out)) (sym a) ∙ ap coded e
 
@@ -38,6 +43,9 @@ change-over a b c kind bs first second = λ i. change-of kind (a i) (b i) bs (c 
 module _ {c : Change} {out : List ℕ × List ℕ} {x : Change × (List ℕ × List ℕ)} (e : (c, out) ≡ x) where
   pub change-refused : (n p m : ℕ) → c .answer ≡ Refused n p → m ≡ refusal n p → (m, out) ≡ coded-change x
   change-refused n p m a r = ap (λ k. (k, out)) r ∙ ap (λ b. (change-code b (c .joined) (c .left), out)) (sym a) ∙ ap coded-change e
+
+  pub change-at : (n p : ℕ) → c .answer ≡ Refused n p → p ≡ place (x .0 .answer)
+  change-at n p a = ap place (sym a) ∙ ap (λ q. place (q .0 .answer)) e
 
   pub change-done : c .answer ≡ Done → (c .joined + 65536 * c .left, out) ≡ coded-change x
   change-done a = ap (λ b. (change-code b (c .joined) (c .left), out)) (sym a) ∙ ap coded-change e

@@ -47,12 +47,9 @@ module _ {A : Type 0} (p : A → Bool) (xs : List A) (i : ℕ) (d : A) where
   pub all-ends : length xs ≤ i → all-of p (drop i xs) ≡ true
   all-ends h = ap (all-of p) (drop-of-length-le xs {i = i} h)
 
--- A test of what was read at a place, as a test of the place; and of two places.
+-- A test of what was read at a place, as a test of the place.
 pub tested : {A : Type 0} (p : A → Bool) {x y : A} {b : Bool} → b ≡ p x → x ≡ y → p y ≡ b
 tested p e f = sym (e ∙ ap p f)
-
-pub tested-pair : {A : Type 0} (p : A → A → Bool) {w x y z : A} {b : Bool} → b ≡ p w x → w ≡ y → x ≡ z → p y z ≡ b
-tested-pair p e f g = sym (e ∙ (λ i. p (f i) (g i)))
 
 -- ---- copies of one element
 

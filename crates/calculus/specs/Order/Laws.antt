@@ -10,7 +10,7 @@ use mathlib.Core.List.{List, [], _∷_}
 use lib.ListN.{length, getD, drop, length-drop}
 use lib.Seq.{take-all, drop-cons}
 use lib.Dec.{T, eqb, ltb}
-use borrow.Author.Tests.{le-ltb, eq-eqb, ne-eqb}
+use borrow.Author.Tests.{le-ltb, eq-eqb, ne-eqb, not-true, not-false}
 use Rattle.calculus.specs.Sets.{In, here, there, _⊆_, select, same-list}
 use Rattle.calculus.specs.Sets.Laws.{in-nil, in-rest, subset-cons, same-cons, subset-swap, in-select, from-select}
 use Rattle.calculus.specs.Lists.Laws.{in-take}
@@ -359,29 +359,45 @@ module _ (a b c d p q r s : ℕ) where
         pub same-at-fourth : eqb d s ≡ same-list (a ∷ b ∷ c ∷ d ∷ []) (p ∷ q ∷ r ∷ s ∷ [])
         same-at-fourth = sym (and-true (eqb d s)) ∙ same-agree c r (d ∷ []) (s ∷ []) g ∙ same-from-third
 
--- ---- whether a list ascends, decided by its elements from the one before the i-th on
+-- ---- a loop that tells whether a list ascends: it tests each element from the second on with the one before it
 
-module _ {A : Type 0} (below : A → A → Bool) (xs : List A) (i : ℕ) (d : A) (h : 0 < i) where
-  -- The i-th element and the one before it.
-  ascending-next : i < length xs → is-ascending below (drop (i - 1) xs) ≡ below (getD xs (i - 1) d) (getD xs i d) && is-ascending below (drop (i + 1 - 1) xs)
-  ascending-next l = go (i - 1) i (i + 1 - 1) (omega arith) (omega arith) l
-    where
-      go : (j k m : ℕ) → k ≡ suc j → m ≡ k → k < length xs → is-ascending below (drop j xs) ≡ below (getD xs j d) (getD xs k d) && is-ascending below (drop m xs)
-      go j k m e f s = rw (f, drop-cons xs j d (omega arith), e, drop-cons xs (suc j) d (omega arith))
+module _ {A : Type 0} (below : A → A → Bool) (xs : List A) where
+  -- What is known before the element at place i is tested: the elements from the one before it on decide.
+  abbrev pub AscendsFrom : ℕ → Type 0
+  AscendsFrom i = (0 < i) × (is-ascending below xs ≡ is-ascending below (drop (i - 1) xs))
 
-  pub ascending-stops : i < length xs → below (getD xs (i - 1) d) (getD xs i d) ≡ false → is-ascending below (drop (i - 1) xs) ≡ false
-  ascending-stops l e = ascending-next l ∙ rw e
+  -- So it is at the start, with the second element.
+  pub ascends-starts : AscendsFrom 1
+  ascends-starts = (omega arith, refl)
 
-  pub ascending-goes : i < length xs → below (getD xs (i - 1) d) (getD xs i d) ≡ true → is-ascending below (drop (i - 1) xs) ≡ is-ascending below (drop (i + 1 - 1) xs)
-  ascending-goes l e = ascending-next l ∙ rw e
+  module _ (n : ℕ) (size : length xs ≡ n) (i : ℕ) (inv : AscendsFrom i) where
+    -- No element is left: the list ascends.
+    pub ascends-ends : n ≤ i → true ≡ is-ascending below xs
+    ascends-ends l = sym (inv .1 ∙ short (drop (i - 1) xs) (omega (arith, length-drop (i - 1) xs, inv .0)))
+      where
+        short : (ys : List A) → length ys ≤ 1 → is-ascending below ys ≡ true
+        short [] m = refl
+        short (y ∷ []) m = refl
+        short (y ∷ z ∷ ys) m = absurd (omega arith)
 
-  pub ascending-ends : length xs ≤ i → is-ascending below (drop (i - 1) xs) ≡ true
-  ascending-ends l = short (drop (i - 1) xs) (omega (arith, length-drop (i - 1) xs))
-    where
-      short : (ys : List A) → length ys ≤ 1 → is-ascending below ys ≡ true
-      short [] m = refl
-      short (y ∷ []) m = refl
-      short (y ∷ z ∷ ys) m = absurd (omega arith)
+    -- The elements at the places i - 1 and i were read, and b is their test. What stands at a place is told by `at`.
+    module _ (d : A) (at : ℕ → A) (places : (j : ℕ) → j < n → getD xs j d ≡ at j) (l : i < n) {x y : A} {b : Bool} (test : b ≡ below x y) (reads : x ≡ at (i - 1)) (reads-next : y ≡ at i) where
+      ascends-next : is-ascending below xs ≡ b && is-ascending below (drop (i + 1 - 1) xs)
+      ascends-next =
+          inv .1
+          ∙ pair (i - 1) i (i + 1 - 1) (omega (arith, inv .0)) (omega arith) (omega arith)
+          ∙ ap (λ c. c && is-ascending below (drop (i + 1 - 1) xs)) (sym (test ∙ (λ k. below ((reads ∙ sym (places (i - 1) (omega arith))) k) ((reads-next ∙ sym (places i l)) k))))
+        where
+          pair : (j k m : ℕ) → k ≡ suc j → m ≡ k → k < length xs → is-ascending below (drop j xs) ≡ below (getD xs j d) (getD xs k d) && is-ascending below (drop m xs)
+          pair j k m e f s = rw (f, drop-cons xs j d (omega arith), e, drop-cons xs (suc j) d (omega arith))
+
+      -- They are out of order: the list does not ascend.
+      pub ascends-stops : not b ≡ true → false ≡ is-ascending below xs
+      ascends-stops e = sym (ascends-next ∙ ap (λ c. c && is-ascending below (drop (i + 1 - 1) xs)) (not-true b e))
+
+      -- They are in order: the loop goes on.
+      pub ascends-goes : not b ≡ false → AscendsFrom (i + 1)
+      ascends-goes e = (omega arith, ascends-next ∙ ap (λ c. c && is-ascending below (drop (i + 1 - 1) xs)) (not-false b e))
 
 -- ---- places
 

@@ -151,6 +151,26 @@ numbered-done cs t z = go (first-cause cs) refl z
     go Done e f = refl
     go (Refused n p) e f = absurd (omega (arith, numbered-refused cs t n p e))
 
+-- ---- places
+
+-- The place that checks name is below a bound where each of them keeps below it; a cause without a place is met at 0.
+pub place-then : {m : ℕ} (cs ds : List Check) → place (first-cause cs) < m → place (first-cause ds) < m → place (first-cause (cs ++ ds)) < m
+place-then [] ds h l = l
+place-then (check n clear ∷ cs) ds h l = place-then cs ds h l
+place-then (check n (met p) ∷ cs) ds h l = h
+
+pub place-when : {m : ℕ} (n : ℕ) (b : Bool) (cs : List Check) → place (first-cause cs) < m → place (first-cause (check n (when b) ∷ cs)) < m
+place-when n true cs h = omega arith
+place-when n false cs h = h
+
+-- A cause of nodes is met at one of them.
+pub place-lowest : {m : ℕ} (n : ℕ) (faulty : ℕ → Bool) (k : ℕ) (cs : List Check) → k ≤ m → place (first-cause cs) < m → place (first-cause (check n (lowest faulty k) ∷ cs)) < m
+place-lowest {m} n faulty k cs h l = go (lowest faulty k) refl
+  where
+    go : (f : Finding) → lowest faulty k ≡ f → place (first-cause (check n f ∷ cs)) < m
+    go clear e = l
+    go (met p) e = omega (arith, lowest-least faulty k p e .0)
+
 -- ---- cause 1
 
 pub width-fits : (ws : List ℕ) → T (widths-fit ws) → (r : ℕ) → getD ws r 0 ≤ 4

@@ -2,7 +2,7 @@
 use borrow.Author.Needs.{needs}
 use mathlib.Core.List.{List}
 use Prim.Native.Nat.{ℕ}
-use Rattle.host.specs.Entry.Laws.{answer-refused, answer-endless, answer-listed}
+use Rattle.host.specs.Entry.Laws.{answer-refused, answer-place, answer-endless, answer-listed}
 use Rattle.host.proofs.palmrummy_answer.Statement.{statement}
 use Rattle.host.proofs.palmrummy_answer.Tie as tie
 
@@ -31,7 +31,9 @@ enum-known-answer : tie.Need-enum-known-answer
 enum-known-answer c = search needs
 
 code-requires : tie.Need-code-requires
-code-requires c κs = search needs
+code-requires c κs =
+    let t = c .before in let f = t .before .before .before .before in
+    answer-place (bytes f) (out f) (after f) (f .find-bytes .result) (f .find-bytes .ensures) _ _ (t .answer .given .1)
 
 cast-result : tie.Need-cast-result
 cast-result c = search needs

@@ -4,7 +4,7 @@ use borrow.Author.Needs.{needs}
 use mir.Syntax.{w32}
 use mir.Val.{Fits}
 use lib.ListN.{getD}
-use Rattle.host.specs.Entry.Laws.{verdict-refused, verdict-written, verdict-writable}
+use Rattle.host.specs.Entry.Laws.{verdict-refused, verdict-place, verdict-written, verdict-writable}
 use Rattle.host.proofs.palmrummy_verdict.Statement.{statement}
 use Rattle.host.proofs.palmrummy_verdict.Tie as tie
 
@@ -18,7 +18,9 @@ enum-known-answer : tie.Need-enum-known-answer
 enum-known-answer c = search needs
 
 code-requires : tie.Need-code-requires
-code-requires c κs = search needs
+code-requires c κs =
+    let t = c .before in let j = t .before .before in let a = j .before .before .args in
+    verdict-place (a .input .now) (a .out .now) (j .judge .result) (j .judge .ensures) _ _ (t .answer .given .1)
 
 add-result : tie.Need-add-result
 add-result c = search needs

@@ -1,5 +1,5 @@
 -- Laws of the entries: numbers written one after the other, and the replies by what was found.
-use Prim.Native.Nat.{ℕ, _+_, _*_, _≤_, _<_, _^_}
+use Prim.Native.Nat.{ℕ, _+_, _*_, _/_, _%_, _≤_, _<_, _^_}
 use native.Mathlib.Nat.{min-le-left}
 use native.Mathlib.Omega.{arith}
 use native.Mathlib.Numerals.{add-one}
@@ -15,9 +15,9 @@ use Rattle.calculus.specs.Lists.Laws.{drop-replicate}
 use Rattle.calculus.specs.Rows.{Row, Result, endless, listed}
 use Rattle.causes.specs.declared.Answer.{Answer}
 use Rattle.causes.specs.declared.Answer.the-variants.{Done, Refused}
-use Rattle.causes.specs.Causes.{first-cause}
+use Rattle.causes.specs.Causes.{first-cause, number, place}
 use Rattle.query.specs.declared.Query.{Query}
-use Rattle.query.specs.Reading.{max-constants, constants-of, nodes-of, pool, nodes-in}
+use Rattle.query.specs.Reading.{max-nodes, max-constants, constants-of, nodes-of, pool, nodes-in}
 use Rattle.query.specs.Accepted.Laws.{read-done, pool-of, reading-accepted}
 use Rattle.query.specs.Packing.{word-bytes}
 use Rattle.query.specs.Packing.Bytes.{length-bytes}
@@ -30,6 +30,7 @@ use Rattle.answer.specs.Reply.{front-bytes}
 use Rattle.packed.specs.declared.Listing.{Listing}
 use Rattle.packed.specs.Packed.{widths-in, query-in, query-read, input-checks, judged-reply, judged-of, result-in, list-checks, listing-reply, byte-listing-of}
 use Rattle.packed.specs.Packed.Laws.{query-accepted, input-few}
+use Rattle.packed.specs.Packed.Places.{judged-place, listing-place}
 use Rattle.packed.specs.Packed.Told.{rows-fit}
 use Rattle.host.specs.Entry.{code, code-endless, answer-refusal, form-bytes, verdict-bytes, verdict-reply, verdict-entry, room-in, answer-reply, answer-entry}
 use Rattle.host.specs.Code.Entry.{Few, Writable}
@@ -77,6 +78,10 @@ module _ (bs out : List ℕ) (v : Verdict) (e : v ≡ judged-of bs) where
 
   pub verdict-refused : (n p k : ℕ) → v .answer ≡ Refused n p → k ≡ code (Refused n p) → (2 ^ 31 + k, out) ≡ verdict-entry bs out
   verdict-refused n p k f g = ap (λ z. (2 ^ 31 + z, out)) g ∙ reply-is (Refused n p) f
+
+  -- The place of a refusal is a node's number, or 0.
+  pub verdict-place : (n p : ℕ) → v .answer ≡ Refused n p → p < max-nodes
+  verdict-place n p f = omega (arith, ap place f, ap (λ w. place (w .answer)) e, judged-place bs)
 
   pub verdict-written : (o : List ℕ) → v .answer ≡ Done → o ≡ verdict-bytes v → (0, o) ≡ verdict-entry bs out
   verdict-written o f g = ap (λ x. (0, x)) g ∙ reply-is Done f
@@ -134,11 +139,24 @@ module _ (bs out after : List ℕ) (l : Listing) (e : (l, after) ≡ byte-listin
   pub answer-refused : (n p k : ℕ) → l .answer ≡ Refused n p → k ≡ code (Refused n p) → (code-endless + k, after) ≡ answer-entry bs out
   answer-refused n p k a f = ap (λ z. (code-endless + z, after)) f ∙ ap (λ c. (told-code c (l .endless) (l .rows), after)) (sym a) ∙ told
 
+  pub answer-place : (n p : ℕ) → l .answer ≡ Refused n p → p < max-nodes
+  answer-place n p f = omega (arith, ap place f, ap (λ q. place (q .0 .answer)) e, listing-place front-bytes (room-in (length out)) bs out)
+
   pub answer-endless : l .answer ≡ Done → l .endless ≡ true → (code-endless, after) ≡ answer-entry bs out
   answer-endless a t = (λ i. (told-code (sym a i) (sym t i) (l .rows), after)) ∙ told
 
   pub answer-listed : l .answer ≡ Done → l .endless ≡ false → (l .rows, after) ≡ answer-entry bs out
   answer-listed a f = (λ i. (told-code (sym a i) (sym f i) (l .rows), after)) ∙ told
+
+-- Number and place can be read off the number that a refusal returns, the place being a byte.
+code-read : (a : Answer) → place a < max-nodes → (code a / 256 ≡ number a) × (code a % 256 ≡ place a)
+code-read a h = (omega arith, omega arith)
+
+pub verdict-code : (bs : List ℕ) → let a = judged-of bs .answer in (code a / 256 ≡ number a) × (code a % 256 ≡ place a)
+verdict-code bs = code-read (judged-of bs .answer) (judged-place bs)
+
+pub answer-code : (bs out : List ℕ) → let a = byte-listing-of bs out .0 .answer in (code a / 256 ≡ number a) × (code a % 256 ≡ place a)
+answer-code bs out = code-read (byte-listing-of bs out .0 .answer) (listing-place front-bytes (room-in (length out)) bs out)
 
 -- A number of rows is below 2^63, so it tells neither an endless answer nor a refusal: the rows fit into the output, whose length is a 64-bit number.
 pub rows-below-endless : (bs out : List ℕ) → length out < 2 ^ 64 → first-cause (list-checks bs (room-in (length out))) ≡ Done → (rows : List Row) → result-in bs ≡ listed rows → length rows < code-endless

@@ -1,5 +1,5 @@
 -- `print` meets its contract: what the list call told is written line after line, and these are the output's text.
-use Prim.Native.Nat.{ℕ, _*_, _≤_}
+use Prim.Native.Nat.{ℕ, _*_, _≤_, _<_}
 use native.Mathlib.Omega.{arith}
 use borrow.Author.Needs.{needs}
 use mathlib.Core.Path.{_≡_, ap, _∙_}
@@ -9,9 +9,13 @@ use lib.ListN.{length, take, length-append, length-replicate}
 use lib.Seq.{length-take-le}
 use Rattle.calculus.specs.Sets.{union-of}
 use Rattle.causes.specs.declared.Answer.the-variants.{Done, Refused}
+use Rattle.causes.specs.Causes.{place}
+use Rattle.query.specs.Reading.{max-nodes}
+use Rattle.answer.specs.Reply.{front as at-front}
 use Rattle.answer.specs.Code.Listing.{cut}
 use Rattle.packed.specs.declared.Listing.{Listing}
 use Rattle.packed.specs.Packed.{listing-of}
+use Rattle.packed.specs.Packed.Places.{listing-place}
 use Rattle.lines.specs.Text.{line, word-refused, word-row, word-rows, word-endless, head-text, text-of, printed}
 use Rattle.lines.specs.Code.Text.{wrote}
 use Rattle.lines.specs.Text.Laws.{wrote-then, wrote-end, wrote-length, wrote-printed, length-head, length-line, length-cut-rows}
@@ -39,6 +43,10 @@ module _ {bs room : List ℕ} {l : Listing} {after out : List ℕ} (k : Ready bs
 
   refused : (n p r : ℕ) (now : List ℕ) → l .answer ≡ Refused n p → (r, now) ≡ wrote 0 (line word-refused (n ∷ p ∷ [])) out → Prints bs out r now
   refused n p r now g w = whole (line word-refused (n ∷ p ∷ [])) r now (text-refused bs room (k .room-size) l after (k .reply) n p g) (omega (arith, length-line word-refused (n ∷ p ∷ []))) w
+
+  -- The place of a refusal is a node's number, or 0.
+  place-fits : (n p : ℕ) → l .answer ≡ Refused n p → p < max-nodes
+  place-fits n p g = omega (arith, ap place g, ap (λ q. place (q .0 .answer)) (k .reply), listing-place at-front (length room) bs room)
 
   module _ (g : l .answer ≡ Done) where
     abbrev front : List ℕ
@@ -128,7 +136,7 @@ enum-known-answer : tie.Need-enum-known-answer
 enum-known-answer c = search needs
 
 refusal-requires : tie.Need-refusal-requires
-refusal-requires c κs = search needs
+refusal-requires c κs = let a = c .before .before in let k = ready (a .before .before) (sized-refusal c) in (place-fits k _ _ (a .answer .given .1), omega (arith, k .size))
 
 returns : tie.Need-returns
 returns c = let a = c .before .before .before in refused (ready (a .before .before) (sized-refusal (c .before))) _ _ (c .refusal .result) (c .refusal .last .1 .1 .0) (a .answer .given .1) (c .refusal .ensures)

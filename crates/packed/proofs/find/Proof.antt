@@ -1,4 +1,4 @@
--- `packed::find` meets its contract: what is taken from the bytes is refused, or its query is judged and evaluated over its store.
+-- `packed::find` meets its contract: the assessment of the bytes is refused, or its form is evaluated over its store.
 use Prim.Native.Nat.{ℕ}
 use borrow.Author.Needs.{needs}
 use mir.Syntax.{w32}
@@ -6,42 +6,34 @@ use mir.Val.{Fits}
 use mathlib.Core.Path.{ap, _∙_}
 use mathlib.Core.List.{List}
 use lib.ListN.{length, getD}
-use Rattle.answer.specs.Code.Reply.{Evaluable}
 use Rattle.answer.specs.Reply.{front}
-use Rattle.packed.specs.declared.Input.{Input}
 use Rattle.packed.proofs.Taking.{refused-list, evaluable, list-given}
 use Rattle.packed.proofs.find.Statement.{statement}
 use Rattle.packed.proofs.find.Tie as tie
 
 -- ---- what is known at a place
 
--- The input is taken.
-abbrev start : tie.After-take → tie.Start
+-- The input is assessed.
+abbrev start : tie.After-assess → tie.Start
 start c = c .before .before .before
 
-abbrev bytes : tie.After-take → List ℕ
+abbrev bytes : tie.After-assess → List ℕ
 bytes c = start c .args .bytes .now
 
-abbrev out : tie.After-take → List ℕ
+abbrev out : tie.After-assess → List ℕ
 out c = start c .args .out .now
 
-constant-fits : (c : tie.After-take) (k : ℕ) → Fits w32 (getD (c .take .result .query .constants) k 0)
+constant-fits : (c : tie.After-assess) (k : ℕ) → Fits w32 (getD (c .assess .result .verdict .form .constants) k 0)
 constant-fits c k = search needs
 
 -- It is accepted.
-abbrev taken : tie.After-enum-told → tie.After-take
-taken c = c .before .before
-
-abbrev input : tie.After-enum-told → Input
-input c = taken c .take .result
-
-can-evaluate : (c : tie.After-enum-told) → Evaluable (input c .store) (input c .query) (input c .columns)
-can-evaluate c = let t = taken c in evaluable (bytes t) (input c) (t .take .ensures) (c .enum-told .given .1) (λ k. constant-fits t k .fits)
+abbrev assessed : tie.After-enum-told → tie.After-assess
+assessed c = c .before .before .before
 
 -- ---- the needs
 
-take-requires : tie.Need-take-requires
-take-requires c κs = search needs
+assess-requires : tie.Need-assess-requires
+assess-requires c κs = search needs
 
 enum-known-answer : tie.Need-enum-known-answer
 enum-known-answer c = search needs
@@ -51,17 +43,16 @@ refused-listing-requires c κs = search needs
 
 returns : tie.Need-returns
 returns c =
-    let a = c .before .before in let t = a .before .before in
-    ap (λ l. (l, out t)) (c .refused-listing .ensures) ∙ refused-list (bytes t) (t .take .result) (t .take .ensures) _ _ (a .answer .given .1) front (length (out t)) (out t)
+    let t = c .before .before in let a = t .before .before .before in
+    ap (λ l. (l, out a)) (c .refused-listing .ensures) ∙ refused-list (bytes a) (a .assess .result) (a .assess .ensures) _ _ (t .answer .given .1) front (length (out a)) (out a)
 
 enum-told : tie.Need-enum-told
 enum-told c = search needs
 
-judged-requires : tie.Need-judged-requires
-judged-requires c κs = let e = c .before .before .before in let v = can-evaluate e in ((input e .store .widths, v .accepted), v .columns-are)
-
 evaluate-requires : tie.Need-evaluate-requires
-evaluate-requires c κs = can-evaluate (c .before .before .before .before .before)
+evaluate-requires c κs =
+    let e = c .before .before .before .before in let a = assessed e in
+    evaluable (bytes a) (a .assess .result) (a .assess .ensures) (e .enum-told .given .1) (λ k. constant-fits a k .fits)
 
 list-requires : tie.Need-list-requires
 list-requires c κs = search needs
@@ -71,21 +62,9 @@ same-length c = search needs
 
 returns-2 : tie.Need-returns-2
 returns-2 c =
-    let f = c .before .before .before in let v = f .before .before in let e = v .before .before .before .before in let t = taken e in
-    ap (λ l. (l, f .evaluate .last .1 .1 .1 .0)) (c .list .ensures)
-    ∙ list-given (bytes t) (input e) (t .take .ensures) (e .enum-told .given .1) front (length (out t)) (v .judged .result) (f .evaluate .result) (out t) (f .evaluate .last .1 .1 .1 .0) (v .judged .ensures) (f .evaluate .ensures)
+    let f = c .before .before .before in let e = f .before .before .before .before .before in let a = assessed e in let after = f .evaluate .last .1 .1 .1 .0 in
+    ap (λ l. (l, after)) (c .list .ensures)
+    ∙ list-given (bytes a) (a .assess .result) (a .assess .ensures) (e .enum-told .given .1) (λ k. constant-fits a k .fits) front (length (out a)) (out a) (f .evaluate .result) after (f .evaluate .ensures)
 
 pub find-spec : {M : Type 1} → statement M
-find-spec =
-    tie.close
-    (tie.spec
-    take-requires
-    enum-known-answer
-    refused-listing-requires
-    returns
-    enum-told
-    judged-requires
-    evaluate-requires
-    list-requires
-    same-length
-    returns-2)
+find-spec = tie.close (tie.spec assess-requires enum-known-answer refused-listing-requires returns enum-told evaluate-requires list-requires same-length returns-2)

@@ -1,54 +1,14 @@
--- `packed::judge` meets its contract: what is taken from the bytes is refused, or its query is judged.
-use Prim.Native.Nat.{ℕ}
+-- `packed::judge` meets its contract: the verdict is that of the assessment.
 use borrow.Author.Needs.{needs}
-use mir.Syntax.{w32}
-use mir.Val.{Fits}
-use mathlib.Core.Path.{_∙_}
-use mathlib.Core.List.{List}
-use lib.ListN.{getD}
-use Rattle.packed.proofs.Taking.{refused-verdict, evaluable, verdict-given}
+use mathlib.Core.Path.{ap}
 use Rattle.packed.proofs.judge.Statement.{statement}
 use Rattle.packed.proofs.judge.Tie as tie
 
--- ---- what is known at a place
-
--- The input is taken.
-abbrev bytes : tie.After-take → List ℕ
-bytes c = c .before .before .args .bytes .now
-
-constant-fits : (c : tie.After-take) (k : ℕ) → Fits w32 (getD (c .take .result .query .constants) k 0)
-constant-fits c k = search needs
-
--- It is accepted.
-abbrev taken : tie.After-enum-told → tie.After-take
-taken c = c .before .before .before .before
-
--- ---- the needs
-
-take-requires : tie.Need-take-requires
-take-requires c κs = search needs
-
-enum-known-answer : tie.Need-enum-known-answer
-enum-known-answer c = search needs
-
-refused-requires : tie.Need-refused-requires
-refused-requires c κs = search needs
+assess-requires : tie.Need-assess-requires
+assess-requires c κs = search needs
 
 returns : tie.Need-returns
-returns c =
-    let t = c .before .before in let i = t .before .before .before .before in
-    c .refused .ensures ∙ refused-verdict (bytes i) (i .take .result) (i .take .ensures) _ _ (t .answer .given .1)
-
-enum-told : tie.Need-enum-told
-enum-told c = search needs
-
-judged-requires : tie.Need-judged-requires
-judged-requires c κs =
-    let i = taken c in let v = evaluable (bytes i) (i .take .result) (i .take .ensures) (c .enum-told .given .1) (λ k. constant-fits i k .fits) in
-    ((i .take .result .store .widths, v .accepted), v .columns-are)
-
-returns-2 : tie.Need-returns-2
-returns-2 c = let t = c .before in let i = taken t in c .judged .ensures ∙ verdict-given (bytes i) (i .take .result) (i .take .ensures) (t .enum-told .given .1)
+returns c = ap (λ a. a .verdict) (c .before .assess .ensures)
 
 pub judge-spec : {M : Type 1} → statement M
-judge-spec = tie.close (tie.spec take-requires enum-known-answer refused-requires returns enum-told judged-requires returns-2)
+judge-spec = tie.close (tie.spec assess-requires returns)

@@ -1,5 +1,5 @@
 -- `packed::take` meets its contract: whether the bytes are whole, the reading of the query, and the filling of the store decide in that order.
-use Prim.Native.Nat.{ℕ, _+_, _*_, _-_, _≤_}
+use Prim.Native.Nat.{ℕ, _+_, _*_, _-_, _≤_, _<_}
 use native.Mathlib.Omega.{arith}
 use borrow.Author.Needs.{needs}
 use borrow.Author.Tests.{not-true, not-false}
@@ -18,7 +18,7 @@ use Rattle.query.specs.declared.Reading.{Reading}
 use Rattle.query.specs.Reading.{read-of}
 use Rattle.packed.specs.declared.Input.{Input}
 use Rattle.packed.specs.Packed.{widths-in, count-in, record-at, records-in, query-in, is-whole}
-use Rattle.packed.specs.Packed.Laws.{whole-lengths, input-short, input-unread, input-unfilled, input-filled}
+use Rattle.packed.specs.Packed.Laws.{whole-lengths, extent-whole, extent-count, input-short, input-unread, input-unfilled, input-filled}
 use Rattle.packed.proofs.take.Statement.{statement}
 use Rattle.packed.proofs.take.Tie as tie
 
@@ -34,77 +34,78 @@ assembled f r = record { answer = Done; store = f .store; query = r .query; colu
 
 -- ---- what is known at a place
 
--- The bytes are whole.
-abbrev bytes : tie.Else1 → List ℕ
-bytes c = c .before .before .before .args .bytes .now
+-- The input is measured.
+abbrev bytes : tie.After-measure → List ℕ
+bytes c = c .before .before .args .bytes .now
 
-whole : (c : tie.Else1) → is-whole (bytes c) ≡ true
-whole c = sym (c .before .is-whole .ensures) ∙ not-false (c .before .is-whole .result) (c .if1 .left)
+-- It is whole.
+abbrev measured : tie.Else1 → tie.After-measure
+measured c = c .before .before
 
-headed : (c : tie.Else1) → 18 ≤ length (bytes c)
-headed c = whole-lengths (bytes c) (whole c) .1
+whole : (c : tie.Else1) → is-whole (bytes (measured c)) ≡ true
+whole c =
+    let m = measured c in
+    sym (extent-whole (bytes m)) ∙ ap (λ e. e .whole) (sym (m .measure .ensures)) ∙ not-false (m .measure .result .whole) (c .if1 .left)
 
--- The records are counted.
-abbrev entire : tie.After-count → tie.Else1
-entire c = c .before .before
+counts : (c : tie.Else1) → measured c .measure .result .count ≡ count-in (bytes (measured c))
+counts c = let m = measured c in ap (λ e. e .count) (m .measure .ensures) ∙ extent-count (bytes m) (whole c)
 
-reaches : (c : tie.After-count) → 18 + 17 * c .count .result ≤ length (bytes (entire c))
-reaches c = let w = entire c in omega (arith, whole-lengths (bytes w) (whole w) .2, c .count .ensures .0)
+-- Its records reach no further than its bytes, which are at most 8,192.
+reaches : (c : tie.Else1) → let n = measured c .measure .result .count in (18 + 17 * n ≤ length (bytes (measured c))) × (n < 65536)
+reaches c = let h = whole-lengths (bytes (measured c)) (whole c) in (omega (arith, h .2, counts c), omega (arith, h .0, h .2, counts c))
 
 -- The query is read.
-abbrev counted : tie.After-read → tie.After-count
-counted c = c .before .before
+abbrev entire : tie.After-read → tie.Else1
+entire c = c .before .before .before
 
-reading : (c : tie.After-read) → let bs = bytes (entire (counted c)) in c .read .result ≡ read-of (widths-in bs) (query-in bs)
+reading : (c : tie.After-read) → let bs = bytes (measured (entire c)) in c .read .result ≡ read-of (widths-in bs) (query-in bs)
 reading c =
-    let n = counted c in let bs = bytes (entire n) in
-    c .read .ensures ∙ (λ j. read-of (n .before .widths .ensures j) (rest bs (n .count .result) (n .count .ensures .0) j))
+    let w = entire c in let bs = bytes (measured w) in
+    c .read .ensures ∙ (λ j. read-of (c .before .before .widths .ensures j) (rest bs (measured w .measure .result .count) (counts w) j))
 
 -- It is accepted.
-read : (c : tie.After-enum-told) → let bs = bytes (entire (counted (c .before .before))) in read-of (widths-in bs) (query-in bs) .answer ≡ Done
+read : (c : tie.After-enum-told) → let bs = bytes (measured (entire (c .before .before))) in read-of (widths-in bs) (query-in bs) .answer ≡ Done
 read c = ap (λ v. v .answer) (sym (reading (c .before .before))) ∙ c .enum-told .given .1
 
 -- The store is filled.
 abbrev queried : tie.After-fill → tie.After-read
 queried c = c .before .before .before
 
-filling : (c : tie.After-fill) → let bs = bytes (entire (counted (queried c))) in c .fill .result ≡ fill-reply (widths-in bs) (records-in bs)
+filling : (c : tie.After-fill) → let bs = bytes (measured (entire (queried c))) in c .fill .result ≡ fill-reply (widths-in bs) (records-in bs)
 filling c =
-    let n = counted (queried c) in let bs = bytes (entire n) in
+    let r = queried c in let w = entire r in let bs = bytes (measured w) in
     c .fill .ensures
-    ∙ (λ j. collect-all (beginning (n .before .widths .ensures j)) (tabulate (record-at bs) (n .count .ensures .0 j)))
+    ∙ (λ j. collect-all (beginning (r .before .before .widths .ensures j)) (tabulate (record-at bs) (counts w j)))
     ∙ fill-collects (widths-in bs) (records-in bs)
 
 -- ---- the needs
 
-is-whole-requires : tie.Need-is-whole-requires
-is-whole-requires c κs = search needs
+measure-requires : tie.Need-measure-requires
+measure-requires c κs = search needs
 
 refused-requires : tie.Need-refused-requires
 refused-requires c κs = search needs
 
 returns : tie.Need-returns
 returns c =
-    let w = c .before .before in
-    c .refused .ensures ∙ sym (input-short (w .before .before .args .bytes .now) (sym (w .is-whole .ensures) ∙ not-true (w .is-whole .result) (c .before .if1 .taken)))
+    let m = c .before .before .before in
+    c .refused .ensures
+    ∙ sym (input-short (bytes m) (sym (extent-whole (bytes m)) ∙ ap (λ e. e .whole) (sym (m .measure .ensures)) ∙ not-true (m .measure .result .whole) (c .before .if1 .taken)))
 
 widths-requires : tie.Need-widths-requires
-widths-requires c κs = headed c
-
-count-requires : tie.Need-count-requires
-count-requires c κs = headed (c .before)
+widths-requires c κs = whole-lengths (bytes (measured c)) (whole c) .1
 
 mul-from : tie.Need-mul-from
-mul-from c = search needs
+mul-from c = omega (arith, reaches (c .before))
 
 add-from : tie.Need-add-from
-add-from c = search needs
+add-from c = omega (arith, reaches (c .before))
 
 sub-read : tie.Need-sub-read
-sub-read c = reaches c
+sub-read c = reaches (c .before) .0
 
 part-read-start : tie.Need-part-read-start
-part-read-start c = reaches c
+part-read-start c = reaches (c .before) .0
 
 part-read-end : tie.Need-part-read-end
 part-read-end c = search needs
@@ -120,14 +121,14 @@ refused-requires-2 c κs = search needs
 
 returns-2 : tie.Need-returns-2
 returns-2 c =
-    let t = c .before .before in let r = t .before .before in let w = entire (counted r) in
-    c .refused2 .ensures ∙ sym (input-unread (bytes w) (whole w) _ _ (ap (λ v. v .answer) (sym (reading r)) ∙ t .answer .given .1))
+    let t = c .before .before in let r = t .before .before in let w = entire r in
+    c .refused2 .ensures ∙ sym (input-unread (bytes (measured w)) (whole w) _ _ (ap (λ v. v .answer) (sym (reading r)) ∙ t .answer .given .1))
 
 enum-told : tie.Need-enum-told
 enum-told c = search needs
 
 fill-requires : tie.Need-fill-requires
-fill-requires c κs = let n = counted (c .before .before) in (reaches n, n .count .ensures .1)
+fill-requires c κs = reaches (entire (c .before .before))
 
 enum-known-outcome : tie.Need-enum-known-outcome
 enum-known-outcome c = search needs
@@ -137,26 +138,25 @@ refused-requires-3 c κs = search needs
 
 returns-3 : tie.Need-returns-3
 returns-3 c =
-    let t = c .before .before in let f = t .before .before in let w = entire (counted (queried f)) in
-    c .refused3 .ensures ∙ sym (input-unfilled (bytes w) (whole w) (read (f .before)) _ _ (ap (λ v. v .answer) (sym (filling f)) ∙ t .outcome .given .1))
+    let t = c .before .before in let f = t .before .before in let w = entire (queried f) in
+    c .refused3 .ensures ∙ sym (input-unfilled (bytes (measured w)) (whole w) (read (f .before)) _ _ (ap (λ v. v .answer) (sym (filling f)) ∙ t .outcome .given .1))
 
 enum-told-2 : tie.Need-enum-told-2
 enum-told-2 c = search needs
 
 returns-4 : tie.Need-returns-4
 returns-4 c =
-    let t = c .before .before .before in let f = t .before .before in let r = queried f in let w = entire (counted r) in
-    (λ j. assembled (filling f j) (reading r j)) ∙ sym (input-filled (bytes w) (whole w) (read (f .before)) (ap (λ v. v .answer) (sym (filling f)) ∙ t .enum-told2 .given .1))
+    let t = c .before .before .before in let f = t .before .before in let r = queried f in let w = entire r in
+    (λ j. assembled (filling f j) (reading r j)) ∙ sym (input-filled (bytes (measured w)) (whole w) (read (f .before)) (ap (λ v. v .answer) (sym (filling f)) ∙ t .enum-told2 .given .1))
 
 pub take-spec : {M : Type 1} → statement M
 take-spec =
     tie.close
     (tie.spec
-    is-whole-requires
+    measure-requires
     refused-requires
     returns
     widths-requires
-    count-requires
     mul-from
     add-from
     sub-read

@@ -1,18 +1,34 @@
 -- How the code takes an input apart and puts a listing together. Definitions only; the laws are in Packed/.
 use Prim.Native.Nat.{ℕ}
-use mathlib.Core.Bool.{Bool}
+use mathlib.Core.Bool.{Bool, true, false}
 use mathlib.Core.List.{List, []}
 use Rattle.calculus.specs.Generators.{columns}
 use Rattle.causes.specs.declared.Answer.{Answer}
 use Rattle.causes.specs.declared.Answer.the-variants.{Done, Refused}
 use Rattle.causes.specs.Causes.{first-cause}
+use Rattle.tables.specs.declared.Store.{Store}
 use Rattle.tables.specs.Store.{no-store}
 use Rattle.query.specs.declared.Columns.{Columns}
 use Rattle.query.specs.Reading.{query-of, columns-of, formula}
+use Rattle.verdict.specs.declared.Verdict.{Verdict}
 use Rattle.answer.specs.declared.Found.{Found}
+use Rattle.packed.specs.declared.part.Extent.{Extent}
+use Rattle.packed.specs.declared.Assessment.{Assessment}
 use Rattle.packed.specs.declared.Input.{Input}
 use Rattle.packed.specs.declared.Listing.{Listing}
-use Rattle.packed.specs.Packed.{store-in, query-read, input-checks, beside, declined}
+use Rattle.packed.specs.Packed.{count-in, is-whole, store-in, query-read, input-checks, judged-of, beside, declined}
+
+-- ---- how far an input reaches: whether it is whole, and then the number of its records
+
+abbrev pub no-extent : Extent
+no-extent = record { whole = false; count = 0 }
+
+abbrev pub extent-by : Bool → ℕ → Extent
+extent-by true n = record { whole = true; count = n }
+extent-by false n = no-extent
+
+abbrev pub extent-of : List ℕ → Extent
+extent-of bs = extent-by (is-whole bs) (count-in bs)
 
 -- ---- what an input holds; a refusal comes with nothing
 
@@ -25,6 +41,15 @@ input-reply (Refused n p) bs = refusal n p
 
 abbrev pub input-of : List ℕ → Input
 input-of bs = input-reply (first-cause (input-checks bs)) bs
+
+-- ---- an input as judged
+
+abbrev pub with-verdict : Store → Verdict → Assessment
+with-verdict s v = record { store = s; verdict = v }
+
+-- The store of its records, and the verdict on its query.
+abbrev pub assessed : List ℕ → Assessment
+assessed bs = with-verdict (input-of bs .store) (judged-of bs)
 
 -- ---- a listing from what was found
 

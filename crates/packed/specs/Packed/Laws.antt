@@ -1,11 +1,12 @@
 -- Laws of the packed input: what it comes to at each cause that the code meets in turn, and what an accepted input promises. What the list's reply tells is in
 -- Packed/Told.antt.
 use Prim.Native.Nat.{ℕ, _+_, _*_, _≤_, _<_, _^_}
-use mathlib.Core.Path.{_≡_, refl, sym, ap, subst, subst⁻¹, _∙_}
+use mathlib.Core.Path.{_≡_, refl, sym, ap, subst⁻¹, _∙_}
 use mathlib.Core.Bool.{Bool, true, false, not, _&&_}
 use mathlib.Core.List.{List, [], _∷_, _++_}
 use lib.ListN.{length, getD}
 use lib.Dec.{T, leb}
+use Rattle.calculus.specs.Lists.{padded}
 use Rattle.calculus.specs.Order.{insert}
 use Rattle.calculus.specs.Reflects.Laws.{reflects, confirmed-by, reflects-and, reflects-leb, reflects-T, reflects-true}
 use Rattle.calculus.specs.Generators.{columns, verdict, safe}
@@ -24,16 +25,16 @@ use Rattle.tables.specs.Fill.{unless-refused, fill-from, fill-reply}
 use Rattle.tables.specs.Fill.Laws.{fill-widths, fill-layout}
 use Rattle.query.specs.declared.Query.{Query}
 use Rattle.query.specs.declared.Columns.{Columns}
-use Rattle.query.specs.Reading.{constants-of, nodes-of, read-checks, read-reply, read-of, columns-of, formula}
+use Rattle.query.specs.Reading.{max-constants, constants-of, nodes-of, read-checks, read-reply, read-of, columns-of, formula}
 use Rattle.query.specs.Accepted.{Accepted}
-use Rattle.query.specs.Accepted.Laws.{read-few, read-cause, read-widths, read-columns, reading-accepted}
+use Rattle.query.specs.Accepted.Laws.{read-pool, read-few, read-cause, read-widths, read-columns, reading-accepted}
+use Rattle.verdict.specs.Form.{form-of}
 use Rattle.verdict.specs.Verdict.{judged, refusal as verdict-refusal}
 use Rattle.answer.specs.Reply.{row-checks, Writing, reply-by}
-use Rattle.answer.specs.Code.Reply.{Evaluable, evaluated-by}
+use Rattle.answer.specs.Code.Reply.{Answerable, evaluated-by}
 use Rattle.packed.specs.declared.Input.{Input}
-use Rattle.packed.specs.declared.Listing.{Listing}
 use Rattle.packed.specs.Packed.{widths-in, count-in, records-in, query-in, is-whole, record-checks, input-checks, store-in, query-read, judged-reply, judged-of, result-in, list-checks, declined, listing-reply, listing-in}
-use Rattle.packed.specs.Code.Packed.{refusal, input-reply, input-of, listing-with}
+use Rattle.packed.specs.Code.Packed.{extent-by, extent-of, refusal, input-reply, input-of, listing-with}
 
 -- ---- the parts
 
@@ -42,6 +43,17 @@ pub whole-lengths : (bs : List ℕ) → is-whole bs ≡ true → (length bs ≤ 
 whole-lengths bs w =
     let h = confirmed-by w (reflects-and (reflects-and (reflects-leb (length bs) 8192) (reflects-leb 18 (length bs))) (reflects-leb (18 + 17 * count-in bs) (length bs))) in
     (h .0 .0, h .0 .1, h .1)
+
+-- How far it reaches says whether it is whole, and then counts its records.
+extent-by-whole : (b : Bool) (n : ℕ) → extent-by b n .whole ≡ b
+extent-by-whole true n = refl
+extent-by-whole false n = refl
+
+pub extent-whole : (bs : List ℕ) → extent-of bs .whole ≡ is-whole bs
+extent-whole bs = extent-by-whole (is-whole bs) (count-in bs)
+
+pub extent-count : (bs : List ℕ) → is-whole bs ≡ true → extent-of bs .count ≡ count-in bs
+extent-count bs w = ap (λ b. extent-by b (count-in bs) .count) w
 
 -- What goes on where checks refuse nothing answers their first cause, or its own.
 unless-cause : (cs ds : List Check) (c : Changed) → c .answer ≡ first-cause ds → unless-refused (first-cause cs) c .answer ≡ first-cause (cs ++ ds)
@@ -110,6 +122,10 @@ input-reply-answer : (a : Answer) (bs : List ℕ) → input-reply a bs .answer �
 input-reply-answer Done bs = refl
 input-reply-answer (Refused n p) bs = refl
 
+judged-reply-answer : (a : Answer) (q : Query) → judged-reply a q .answer ≡ a
+judged-reply-answer Done q = refl
+judged-reply-answer (Refused n p) q = refl
+
 -- The list's reply is what was found, with the verdict and the columns beside it.
 found-beside : (write : Writing (List ℕ)) (a : Answer) (q : Query) (found : Result) (buffer : List ℕ) → let f = reply-by write a found buffer in listing-reply write a q found buffer ≡ (listing-with (f .0) (safe (verdict (formula q))) (columns-of (columns (formula q))), f .1)
 found-beside write Done q endless buffer = refl
@@ -141,49 +157,47 @@ module _ (bs : List ℕ) where
     pub records-filled : fill-reply (widths-in bs) (records-in bs) .answer ≡ Done
     records-filled = fill-answer (widths-in bs) (records-in bs) (read-widths (widths-in bs) (query-in bs) query-accepted) ∙ later-done (query-checks bs) (fill-checks bs) later-clear
 
+  pub judged-answer : judged-of bs .answer ≡ first-cause (input-checks bs)
+  judged-answer = judged-reply-answer (first-cause (input-checks bs)) (query-read bs)
+
   -- Refused.
-  module _ (n p : ℕ) (e : input-of bs .answer ≡ Refused n p) where
+  module _ (n p : ℕ) (c : first-cause (input-checks bs) ≡ Refused n p) where
     pub input-refused : input-of bs ≡ refusal n p
-    input-refused = input-by bs (Refused n p) (sym input-answer ∙ e)
+    input-refused = input-by bs (Refused n p) c
 
     pub judged-refused : judged-of bs ≡ verdict-refusal n p
-    judged-refused = judged-by (Refused n p) (sym input-answer ∙ e)
+    judged-refused = judged-by (Refused n p) c
 
     pub listing-refused : (write : Writing (List ℕ)) (room : ℕ) (buffer : List ℕ) → listing-in write room bs buffer ≡ (declined n p, buffer)
-    listing-refused write room buffer = listing-by-cause write room buffer (Refused n p) (then-refused (input-checks bs) (row-checks (store-in bs) (query-read bs) room) n p (sym input-answer ∙ e))
+    listing-refused write room buffer = listing-by-cause write room buffer (Refused n p) (then-refused (input-checks bs) (row-checks (store-in bs) (query-read bs) room) n p c)
 
-  -- An accepted input: its query can be evaluated over its store, the constants being 32-bit numbers.
-  module _ (e : input-of bs .answer ≡ Done) where
-    unmet : first-cause (input-checks bs) ≡ Done
-    unmet = sym input-answer ∙ e
+  -- Accepted.
+  module _ (c : first-cause (input-checks bs) ≡ Done) where
+    pub input-done : input-of bs ≡ input-reply Done bs
+    input-done = input-by bs Done c
 
-    input-done : input-of bs ≡ input-reply Done bs
-    input-done = input-by bs Done unmet
+    pub judged-done : judged-of bs ≡ judged (query-read bs)
+    judged-done = judged-by Done c
 
-    pub input-evaluable : ((i : ℕ) → getD (input-of bs .query .constants) i 0 < 2 ^ 32) → Evaluable (input-of bs .store) (input-of bs .query) (input-of bs .columns)
-    input-evaluable small = subst⁻¹ (λ i. Evaluable (i .store) (i .query) (i .columns)) input-done evaluable
-      where
-        evaluable : Evaluable (store-in bs) (query-read bs) (columns-of (columns (formula (query-read bs))))
-        evaluable =
-            record {
-              layout = reflects (reflects-layout (store-in bs)) (fill-layout (widths-in bs) (records-in bs) (records-filled unmet) .1);
-              accepted =
-                  subst⁻¹ (λ ws. Accepted ws (query-read bs)) (fill-widths (widths-in bs) (records-in bs) (records-filled unmet))
-                  (reading-accepted (widths-in bs) (query-in bs) (subst (λ i. (j : ℕ) → getD (i .query .constants) j 0 < 2 ^ 32) input-done small) (query-accepted unmet));
-              columns-are = refl;
-            }
+    -- The query can be answered over the store, its constants being 32-bit numbers.
+    pub input-answerable : ((i : ℕ) → getD (query-read bs .constants) i 0 < 2 ^ 32) → Answerable (store-in bs) (query-read bs) (columns-of (columns (formula (query-read bs))))
+    input-answerable small =
+        record {
+          layout = reflects (reflects-layout (store-in bs)) (fill-layout (widths-in bs) (records-in bs) (records-filled c) .1);
+          accepted =
+              subst⁻¹ (λ ws. Accepted ws (query-read bs)) (fill-widths (widths-in bs) (records-in bs) (records-filled c))
+              (reading-accepted (widths-in bs) (query-in bs) small (query-accepted c));
+          columns-are = refl;
+        }
 
-    pub judged-done : judged-of bs ≡ judged (input-of bs .query)
-    judged-done = judged-by Done unmet ∙ ap (λ i. judged (i .query)) (sym input-done)
+    -- The form has the constants of the query.
+    pub form-constants : form-of (query-read bs) .constants ≡ query-read bs .constants
+    form-constants =
+        ap (padded max-constants 0) (read-pool (widths-in bs) (query-in bs) (query-accepted c))
+        ∙ sym (ap (λ a. read-reply a (constants-of (query-in bs)) (nodes-of (query-in bs)) .query .constants) (read-cause (widths-in bs) (query-in bs) Done (query-accepted c)))
 
-    pub listing-done : (write : Writing (List ℕ)) (room : ℕ) (buffer : List ℕ) → let i = input-of bs in let f = evaluated-by write (i .store) (i .query) room buffer in listing-in write room bs buffer ≡ (listing-with (f .0) (judged (i .query) .safe) (i .columns), f .1)
+    -- The list is what was found, with the verdict and the columns beside it.
+    pub listing-done : (write : Writing (List ℕ)) (room : ℕ) (buffer : List ℕ) → let q = query-read bs in let f = evaluated-by write (store-in bs) q room buffer in listing-in write room bs buffer ≡ (listing-with (f .0) (judged q .safe) (judged q .columns), f .1)
     listing-done write room buffer =
-        listing-by-cause write room buffer (first-cause last) (then-done (input-checks bs) last unmet)
-        ∙ found-beside write (first-cause last) (query-read bs) (result-in bs) buffer
-        ∙ ap evaluated-with (sym input-done)
-      where
-        last : List Check
-        last = row-checks (store-in bs) (query-read bs) room
-
-        evaluated-with : Input → Listing × List ℕ
-        evaluated-with i = let f = evaluated-by write (i .store) (i .query) room buffer in (listing-with (f .0) (judged (i .query) .safe) (i .columns), f .1)
+        let last : List Check = row-checks (store-in bs) (query-read bs) room in
+        listing-by-cause write room buffer (first-cause last) (then-done (input-checks bs) last c) ∙ found-beside write (first-cause last) (query-read bs) (result-in bs) buffer

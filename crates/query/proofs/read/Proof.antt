@@ -16,24 +16,24 @@ use Rattle.query.specs.declared.Columns.{Columns}
 use Rattle.query.specs.declared.Reading.{Reading}
 use Rattle.query.specs.Decoding.{root}
 use Rattle.query.specs.Code.Free.{columns-found}
-use Rattle.query.specs.Reading.{word-at, count-of-nodes, count-of-constants, constants-of, nodes-of, header-checks, tree-checks, columns-of, accepted}
+use Rattle.query.specs.Reading.{word-at, count-of-nodes, count-of-constants, constants-of, nodes-of, header-checks, tree-checks, columns-of, accepted, max-nodes}
 use Rattle.query.specs.Reading.Laws.{Headed, header-done, refused-header, refused-tree, refused-columns, reply-accepted, Fitting, fitting, nodes-read, nodes-padded, constants-padded}
 use Rattle.query.proofs.read.Statement.{statement}
 use Rattle.query.proofs.read.Tie as tie
 
 -- ---- of values
 
-module _ {bs : List ℕ} {n k : ℕ} (f : Fitting bs n k) (out : List ℕ) (e : out ≡ tabulate (λ i. word-at bs (2 + 4 * k + 4 * i)) n ++ drop n (replicate 64 0)) where
+module _ {bs : List ℕ} {n k : ℕ} (f : Fitting bs n k) (out : List ℕ) (e : out ≡ tabulate (λ i. word-at bs (2 + 4 * k + 4 * i)) n ++ drop n (replicate max-nodes 0)) where
   -- The answer on the nodes as they are read is that on the packed ones.
   judged-nodes : (ws : List ℕ) (a : Answer) → a ≡ first-cause (tree-checks ws k (take n out)) → a ≡ first-cause (tree-checks ws (count-of-constants bs) (nodes-of bs))
   judged-nodes ws a g =
       g
-      ∙ ap (λ (ns : List ℕ). first-cause (tree-checks ws k ns)) (nodes-read f out (drop n (replicate 64 0)) e)
+      ∙ ap (λ (ns : List ℕ). first-cause (tree-checks ws k ns)) (nodes-read f out (drop n (replicate max-nodes 0)) e)
       ∙ ap (λ (j : ℕ). first-cause (tree-checks ws j (nodes-of bs))) (f .constants)
 
   -- And so are the columns.
   found-columns : (xs : Columns) → xs ≡ columns-found (columns (root (take n out))) → xs ≡ columns-found (columns (root (nodes-of bs)))
-  found-columns xs g = g ∙ ap (λ (ns : List ℕ). columns-found (columns (root ns))) (nodes-read f out (drop n (replicate 64 0)) e)
+  found-columns xs g = g ∙ ap (λ (ns : List ℕ). columns-found (columns (root ns))) (nodes-read f out (drop n (replicate max-nodes 0)) e)
 
 few-columns : (xs : List ℕ) → length xs ≤ 4 → columns-found xs ≡ columns-of xs
 few-columns xs h = ap with-first (take-all 4 xs h)
@@ -44,7 +44,7 @@ few-columns xs h = ap with-first (take-all 4 xs h)
 abbrev reply : List ℕ → ℕ → List ℕ → ℕ → Columns → Reading
 reply cs k ns n xs = record { answer = Done; query = record { constants = cs; «constant_count» = k; nodes = ns; «node_count» = n }; columns = xs }
 
-assembled : {bs : List ℕ} {n k : ℕ} → Fitting bs n k → (cs ns : List ℕ) (xs : Columns) → cs ≡ padded 16 0 (constants-of bs) → ns ≡ padded 64 0 (nodes-of bs) → xs ≡ columns-of (columns (root (nodes-of bs))) → reply cs k ns n xs ≡ accepted (constants-of bs) (nodes-of bs)
+assembled : {bs : List ℕ} {n k : ℕ} → Fitting bs n k → (cs ns : List ℕ) (xs : Columns) → cs ≡ padded 16 0 (constants-of bs) → ns ≡ padded max-nodes 0 (nodes-of bs) → xs ≡ columns-of (columns (root (nodes-of bs))) → reply cs k ns n xs ≡ accepted (constants-of bs) (nodes-of bs)
 assembled {bs} {n} {k} f cs ns xs e₁ e₂ e₃ =
     let lk : k ≡ length (constants-of bs) = f .constants ∙ sym (length-tabulate (λ i. word-at bs (2 + 4 * i)) (count-of-constants bs)) in
     let ln : n ≡ length (nodes-of bs) = f .nodes ∙ sym (length-tabulate (λ i. word-at bs (2 + 4 * count-of-constants bs + 4 * i)) (count-of-nodes bs)) in

@@ -232,7 +232,7 @@ module _ (ws bs : List ℕ) (h : read-of ws bs .answer ≡ Done) where
     constants-fit = small;
   }
 
-  -- Whatever the constants are, the formula has at most 64 nodes.
+  -- Whatever the constants are, the formula has at most max-nodes nodes.
   pub read-size : size (formula (read-of ws bs .query)) ≤ max-nodes
   read-size =
       let k : ℕ = count-of-constants bs in

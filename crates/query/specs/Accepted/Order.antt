@@ -1,10 +1,10 @@
 -- Accepted nodes that stand in packing's order are packed again as they were (`words-again`), and so are the bytes that they were read from (`pack-read`).
-use Prim.Native.Nat.{ℕ, zero, suc, _+_, _*_, _-_, _/_, _%_, _≤_, _<_}
+use Prim.Native.Nat.{ℕ, zero, suc, _+_, _-_, _≤_, _<_}
 use native.Mathlib.Nat.{add-zero, zero-add}
 use native.Mathlib.Decide.{decLt}
 use native.Mathlib.Omega.{arith}
-use mathlib.Core.Path.{_≡_, refl, sym, ap, subst⁻¹, _∙_}
-use mathlib.Core.Bool.{false, not, _||_, cond}
+use mathlib.Core.Path.{_≡_, refl, sym, ap, _∙_}
+use mathlib.Core.Bool.{false, not, _||_}
 use mathlib.Core.List.{List, [], _∷_, _++_, map}
 use lib.ListN.{length, getD, take, drop, length-append, length-map, List·getD-append}
 use lib.Seq.{getD-append-add, ext-getD, length-take-le}
@@ -17,10 +17,11 @@ use Rattle.calculus.specs.Formula.{Term, Fmla, size}
 use Rattle.causes.specs.declared.Answer.the-variants.{Done}
 use Rattle.causes.specs.Causes.{widths-fit}
 use Rattle.causes.specs.Causes.Laws.{width-fits}
-use Rattle.query.specs.Nodes.{kind, truth-bit, relation, term-count, terms, variable, equal-term, left, right, under, nonzero, malformed, mismatched}
+use Rattle.query.specs.Nodes.{kind, relation, term-count, terms, variable, equal-term, left, right, under, nonzero, malformed, mismatched, truth-rest, record-rest, equality-rest, not-rest, join-rest, exists-rest, record-word, equality-word, not-word, join-word, exists-word}
+use Rattle.query.specs.Nodes.Words.{term-at, truth-of-fields, record-of-fields, equality-of-fields, not-of-fields, join-of-fields, exists-of-fields, equal-term-small, terms-small}
 use Rattle.query.specs.Decoding.{term-of, root}
 use Rattle.query.specs.Reading.{constants-of, nodes-of, read-of, pool, formula, Bytes}
-use Rattle.query.specs.Packing.{term-code, terms-code, words, packed-bytes, pack, InOrder}
+use Rattle.query.specs.Packing.{term-code, code-at, words, packed-bytes, pack, InOrder}
 use Rattle.query.specs.Packing.Numbering.{Kept, whole-kept}
 use Rattle.query.specs.Packing.Bytes.{bytes-at, packed-again}
 use Rattle.query.specs.Packing.Laws.{length-words, Placed}
@@ -43,57 +44,41 @@ code-of-term c h = go (decLt c 16)
     go (yes l) = rw (lt-leb 16 c l) (omega arith)
     go (no l) = rw (le-leb 16 c (omega arith)) (omega arith)
 
-pub truth-again : (w : ℕ) → kind w ≡ 0 → w % 268435456 ≡ 0 → w ≡ cond (eqb (truth-bit w) 1) 268435456 0
-truth-again w e z = go (decLt w 268435456)
-  where
-    go : Dec (w < 268435456) → w ≡ cond (eqb (truth-bit w) 1) 268435456 0
-    go (yes l) = let d : w ≡ 0 = omega arith in subst⁻¹ (λ u. u ≡ cond (eqb (truth-bit u) 1) 268435456 0) d refl
-    go (no l) = let d : w ≡ 268435456 = omega arith in subst⁻¹ (λ u. u ≡ cond (eqb (truth-bit u) 1) 268435456 0) d refl
-
-pub equality-again : (w : ℕ) → kind w ≡ 2 → w % 1048576 ≡ 0 → w ≡ 2 * 536870912 + variable w * 33554432 + term-code (term-of (equal-term w)) * 1048576
-equality-again w e z = omega (arith, code-of-term (equal-term w) (omega arith))
+pub equality-again : (w : ℕ) → kind w ≡ 2 → equality-rest w ≡ 0 → w ≡ equality-word (variable w) (term-code (term-of (equal-term w)))
+equality-again w e z = equality-of-fields w e z ∙ ap (equality-word (variable w)) (sym (code-of-term (equal-term w) (equal-term-small w)))
 
 -- Of four terms, the first n are in use, and the others are zero.
 codes-again : (n a b c d : ℕ) → n ≤ 4 → a < 32 → b < 32 → c < 32 → d < 32 → any-of nonzero (drop n (a ∷ b ∷ c ∷ d ∷ [])) ≡ false
-    → terms-code (map term-of (take n (a ∷ b ∷ c ∷ d ∷ []))) ≡ a * 131072 + b * 4096 + c * 128 + d * 4
-codes-again zero a b c d h ha hb hc hd f = let z = all-zero (a ∷ b ∷ c ∷ d ∷ []) f in omega (arith, z 0, z 1, z 2, z 3)
-codes-again (suc zero) a b c d h ha hb hc hd f = let z = all-zero (b ∷ c ∷ d ∷ []) f in omega (arith, code-of-term a ha, z 0, z 1, z 2)
-codes-again (suc (suc zero)) a b c d h ha hb hc hd f = let z = all-zero (c ∷ d ∷ []) f in omega (arith, code-of-term a ha, code-of-term b hb, z 0, z 1)
-codes-again (suc (suc (suc zero))) a b c d h ha hb hc hd f = omega (arith, code-of-term a ha, code-of-term b hb, code-of-term c hc, all-zero (d ∷ []) f 0)
-codes-again (suc (suc (suc (suc zero)))) a b c d h ha hb hc hd f = omega (arith, code-of-term a ha, code-of-term b hb, code-of-term c hc, code-of-term d hd)
+    → let t = code-at (map term-of (take n (a ∷ b ∷ c ∷ d ∷ []))) in (a ≡ t 0) × (b ≡ t 1) × (c ≡ t 2) × (d ≡ t 3)
+codes-again zero a b c d h ha hb hc hd f = let z = all-zero (a ∷ b ∷ c ∷ d ∷ []) f in (z 0, z 1, z 2, z 3)
+codes-again (suc zero) a b c d h ha hb hc hd f = let z = all-zero (b ∷ c ∷ d ∷ []) f in (sym (code-of-term a ha), z 0, z 1, z 2)
+codes-again (suc (suc zero)) a b c d h ha hb hc hd f = let z = all-zero (c ∷ d ∷ []) f in (sym (code-of-term a ha), sym (code-of-term b hb), z 0, z 1)
+codes-again (suc (suc (suc zero))) a b c d h ha hb hc hd f = (sym (code-of-term a ha), sym (code-of-term b hb), sym (code-of-term c hc), all-zero (d ∷ []) f 0)
+codes-again (suc (suc (suc (suc zero)))) a b c d h ha hb hc hd f = (sym (code-of-term a ha), sym (code-of-term b hb), sym (code-of-term c hc), sym (code-of-term d hd))
 codes-again (suc (suc (suc (suc (suc n))))) a b c d h ha hb hc hd f = absurd (omega arith)
-
--- A record's word, from its fields; q1 to q6 are what stands before each.
-fields-joined : (w q1 q2 q3 q4 q5 q6 r n a b c d : ℕ) → w ≡ q1 * 4 → q1 ≡ q2 * 32 + d → q2 ≡ q3 * 32 + c → q3 ≡ q4 * 32 + b → q4 ≡ q5 * 32 + a → q5 ≡ q6 * 8 + n → q6 ≡ 16 + r
-    → w ≡ 536870912 + r * 33554432 + n * 4194304 + (a * 131072 + b * 4096 + c * 128 + d * 4)
-fields-joined w q1 q2 q3 q4 q5 q6 r n a b c d e1 e2 e3 e4 e5 e6 e7 = omega arith
-
-record-fields : (w : ℕ) → kind w ≡ 1 → w % 4 ≡ 0 → w ≡ 536870912 + relation w * 33554432 + term-count w * 4194304 + (w / 131072 % 32 * 131072 + w / 4096 % 32 * 4096 + w / 128 % 32 * 128 + w / 4 % 32 * 4)
-record-fields w e z =
-    fields-joined w (w / 4) (w / 128) (w / 4096) (w / 131072) (w / 4194304) (w / 33554432) (relation w) (term-count w) (w / 131072 % 32) (w / 4096 % 32) (w / 128 % 32) (w / 4 % 32)
-    (omega arith) (omega arith) (omega arith) (omega arith) (omega arith) (omega arith) (omega arith)
 
 -- The terms in use of a record.
 abbrev pub terms-in : ℕ → List Term
 terms-in w = map term-of (take (term-count w) (terms w))
 
-pub record-again : (w : ℕ) → kind w ≡ 1 → term-count w ≤ 4 → (nonzero (w % 4) || any-of nonzero (drop (term-count w) (terms w))) ≡ false
-    → w ≡ 536870912 + relation w * 33554432 + length (terms-in w) * 4194304 + terms-code (terms-in w)
+pub record-again : (w : ℕ) → kind w ≡ 1 → term-count w ≤ 4 → (nonzero (record-rest w) || any-of nonzero (drop (term-count w) (terms w))) ≡ false
+    → let t = code-at (terms-in w) in w ≡ record-word (relation w) (length (terms-in w)) (t 0) (t 1) (t 2) (t 3)
 record-again w e n f =
-    let z = or-fails (nonzero (w % 4)) (any-of nonzero (drop (term-count w) (terms w))) f in
+    let z = or-fails (nonzero (record-rest w)) (any-of nonzero (drop (term-count w) (terms w))) f in
     let l : length (terms-in w) ≡ term-count w = length-map (take (term-count w) (terms w)) term-of ∙ length-take-le (term-count w) (terms w) n in
-    let c = codes-again (term-count w) (w / 131072 % 32) (w / 4096 % 32) (w / 128 % 32) (w / 4 % 32) n (omega arith) (omega arith) (omega arith) (omega arith) (z .1) in
-    record-fields w e (nonzero-false (w % 4) (z .0)) ∙ (λ i. 536870912 + relation w * 33554432 + sym l i * 4194304 + sym c i)
+    let s = terms-small w in
+    let c = codes-again (term-count w) (term-at w 0) (term-at w 1) (term-at w 2) (term-at w 3) n (s .0) (s .1) (s .2) (s .3) (z .1) in
+    record-of-fields w e (nonzero-false (record-rest w) (z .0)) ∙ (λ i. record-word (relation w) (sym l i) (c .0 i) (c .1 i) (c .2 i) (c .3 i))
 
-not-again : (w : ℕ) {c : ℕ} → kind w ≡ 3 → left w ≡ c → malformed w ≡ false → w ≡ 3 * 536870912 + c * 8388608
-not-again w e l f = omega (arith, nonzero-false (w % 8388608) (rw e at f))
+not-again : (w : ℕ) {c : ℕ} → kind w ≡ 3 → left w ≡ c → malformed w ≡ false → w ≡ not-word c
+not-again w e l f = not-of-fields w e (nonzero-false (not-rest w) (rw e at f)) ∙ ap not-word l
 
 -- Above two children, an and is of kind 4 and an or of kind 5.
-both-again : (k w : ℕ) {c d : ℕ} → kind w ≡ k → left w ≡ c → right w ≡ d → nonzero (w % 131072) ≡ false → w ≡ k * 536870912 + c * 8388608 + d * 131072
-both-again k w e l r f = omega (arith, nonzero-false (w % 131072) f)
+both-again : (k w : ℕ) {c d : ℕ} → kind w ≡ k → left w ≡ c → right w ≡ d → nonzero (join-rest w) ≡ false → w ≡ join-word k c d
+both-again k w e l r f = join-of-fields w (nonzero-false (join-rest w) f) ∙ (λ i. join-word (e i) (l i) (r i))
 
-exists-again : (w : ℕ) {c : ℕ} → kind w ≡ 6 → under w ≡ c → malformed w ≡ false → w ≡ 6 * 536870912 + variable w * 33554432 + c * 524288
-exists-again w e l f = omega (arith, nonzero-false (w % 524288) (rw e at f))
+exists-again : (w : ℕ) {c : ℕ} → kind w ≡ 6 → under w ≡ c → malformed w ≡ false → w ≡ exists-word (variable w) c
+exists-again w e l f = exists-of-fields w e (nonzero-false (exists-rest w) (rw e at f)) ∙ ap (exists-word (variable w)) l
 
 -- ---- the words of a node's formula end at the node
 
@@ -132,9 +117,9 @@ placed-all xs ns e p = ext-getD 0 xs ns e (λ i l. sym (p i l) ∙ rw zero-add)
 module _ (ws cs ns : List ℕ) (checked : Checked ws cs ns) (order : InOrder ns) where
   words-kept : Kept ns (length ns) (λ n φ. Placed ns n (words φ n))
   words-kept = record {
-    truth-kept = (λ i h e f. placed-one ns i _ (truth-again (getD ns i 0) e (nonzero-false (getD ns i 0 % 268435456) (rw e at (checked .formed i h)))));
+    truth-kept = (λ i h e f. placed-one ns i _ (truth-of-fields (getD ns i 0) e (nonzero-false (truth-rest (getD ns i 0)) (rw e at (checked .formed i h)))));
     record-kept = (λ i h e f. placed-one ns i _ (record-again (getD ns i 0) e (record-width ws (getD ns i 0) (checked .widths) (checked .relations-held i h) e) (rw e at (checked .formed i h))));
-    equality-kept = (λ i h e f. placed-one ns i _ (equality-again (getD ns i 0) e (nonzero-false (getD ns i 0 % 1048576) (rw e at (checked .formed i h)))));
+    equality-kept = (λ i h e f. placed-one ns i _ (equality-again (getD ns i 0) e (nonzero-false (equality-rest (getD ns i 0)) (rw e at (checked .formed i h)))));
     not-kept = (λ i n φ h e f s c p. above-placed ns n i φ s (not-again (getD ns i 0) e c (checked .formed i h)) p);
     and-kept = (λ i n φ ψ h e f s c d p q. both-placed ns n i φ ψ s (both-again 4 (getD ns i 0) e c d (rw e at (checked .formed i h))) p q);
     or-kept = (λ i n φ ψ h e f s c d p q. both-placed ns n i φ ψ s (both-again 5 (getD ns i 0) e c d (rw e at (checked .formed i h))) p q);

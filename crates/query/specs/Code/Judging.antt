@@ -8,6 +8,7 @@ use lib.Dec.{ltb}
 use Rattle.calculus.specs.Lists.{tabulate}
 use Rattle.causes.specs.Causes.{Finding, clear, met}
 use Rattle.query.specs.Nodes.{children, malformed, occurrences, misplaced, strays, mismatched}
+use Rattle.query.specs.Reading.{max-nodes}
 
 -- The fault of the causes 6 to 9.
 abbrev pub node-fault : ℕ → List ℕ → ℕ → List ℕ → ℕ → Bool
@@ -19,4 +20,4 @@ found-at i n = cond (ltb i n) (met i) clear
 
 -- The uses so far, and those by the node w.
 abbrev pub counted-with : List ℕ → ℕ → List ℕ
-counted-with counts w = tabulate (λ c. getD counts c 0 + occurrences c (children w)) 64
+counted-with counts w = tabulate (λ c. getD counts c 0 + occurrences c (children w)) max-nodes

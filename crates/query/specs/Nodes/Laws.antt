@@ -1,5 +1,5 @@
 -- Laws of packed nodes: what a node has by its kind, and how often a node is a child.
-use Prim.Native.Nat.{ℕ, zero, suc, _+_, _*_, _-_, _%_, _≤_, _<_}
+use Prim.Native.Nat.{ℕ, zero, suc, _+_, _*_, _-_, _≤_, _<_}
 use native.Mathlib.Decide.{decLt, ℕ-discrete}
 use native.Mathlib.Nat.{zero-add, add-zero, add-assoc}
 use native.Mathlib.Numerals.{add-one}
@@ -15,8 +15,9 @@ use borrow.Author.Tests.{eq-eqb, ne-eqb}
 use Rattle.calculus.specs.Sets.{In, here, there, union-of}
 use Rattle.calculus.specs.Lists.{tabulate}
 use Rattle.calculus.specs.Lists.Laws.{length-tabulate, getD-tabulate, tabulate-of}
-use Rattle.query.specs.Nodes.{kind, by-kind, nonzero, malformed, left, right, under, children, term-count, terms, equal-term, used-terms, occurrences, uses}
+use Rattle.query.specs.Nodes.{kind, by-kind, nonzero, malformed, join-rest, left, right, under, children, term-count, terms, equal-term, used-terms, occurrences, uses}
 use Rattle.query.specs.Code.Judging.{counted-with}
+use Rattle.query.specs.Reading.{max-nodes}
 
 -- ---- the children, by kind
 
@@ -40,7 +41,7 @@ children-two w h l = ⊎-elim (λ e. rw e) (λ e. rw e) (two-or (kind w) h l)
 pub both-children : (w : ℕ) → (kind w ≡ 4) ⊎ (kind w ≡ 5) → In (left w) (children w) × In (right w) (children w)
 both-children w k = ⊎-elim (λ e. rw e (here refl, there (here refl))) (λ e. rw e (here refl, there (here refl))) k
 
-pub malformed-two : (w : ℕ) → 4 ≤ kind w → kind w ≤ 5 → malformed w ≡ nonzero (w % 131072)
+pub malformed-two : (w : ℕ) → 4 ≤ kind w → kind w ≤ 5 → malformed w ≡ nonzero (join-rest w)
 malformed-two w h l = ⊎-elim (λ e. rw e) (λ e. rw e) (two-or (kind w) h l)
 
 -- A kind past 6.
@@ -126,7 +127,7 @@ uses-few [] c = omega arith
 uses-few (w ∷ ns) c = omega (arith, occurrences-append c (children w) (union-of children ns), occurrences-few c (children w), children-few w, uses-few ns c)
 
 -- The uses of a node among fewer than 64 nodes are so few that two more can be counted in a byte.
-pub uses-fit : (ns : List ℕ) (i c : ℕ) → i ≤ length ns → i < 64 → uses (take i ns) c < 254
+pub uses-fit : (ns : List ℕ) (i c : ℕ) → i ≤ length ns → i < max-nodes → uses (take i ns) c < 254
 uses-fit ns i c h l = omega (arith, uses-few (take i ns) c, length-take-le i ns h)
 
 union-next : {A B : Type 0} (f : A → List B) (xs : List A) (x : A) → union-of f (xs ++ (x ∷ [])) ≡ union-of f xs ++ f x
@@ -141,11 +142,11 @@ abbrev with-children : List ℕ → List ℕ → ℕ → ℕ
 with-children counts xs c = getD counts c 0 + occurrences c xs
 
 -- The uses by one node more.
-pub counted-next : (ns : List ℕ) (i : ℕ) → i < length ns → counted-with (tabulate (uses (take i ns)) 64) (getD ns i 0) ≡ tabulate (uses (take (i + 1) ns)) 64
+pub counted-next : (ns : List ℕ) (i : ℕ) → i < length ns → counted-with (tabulate (uses (take i ns)) max-nodes) (getD ns i 0) ≡ tabulate (uses (take (i + 1) ns)) max-nodes
 counted-next ns i h =
-    let xs = children (getD ns i 0) in let before = tabulate (uses (take i ns)) 64 in
-    tabulate-of (uses (take (i + 1) ns)) (tabulate (with-children before xs) 64) 64 0 (length-tabulate (with-children before xs) 64)
-    (λ c l. getD-tabulate (with-children before xs) 64 c 0 l ∙ ap (λ (k : ℕ). k + occurrences c xs) (getD-tabulate (uses (take i ns)) 64 c 0 l) ∙ sym (uses-next ns i c h))
+    let xs = children (getD ns i 0) in let before = tabulate (uses (take i ns)) max-nodes in
+    tabulate-of (uses (take (i + 1) ns)) (tabulate (with-children before xs) max-nodes) max-nodes 0 (length-tabulate (with-children before xs) max-nodes)
+    (λ c l. getD-tabulate (with-children before xs) max-nodes c 0 l ∙ ap (λ (k : ℕ). k + occurrences c xs) (getD-tabulate (uses (take i ns)) max-nodes c 0 l) ∙ sym (uses-next ns i c h))
 
 -- The counts with one more of x.
 abbrev one-more : List ℕ → ℕ → List ℕ
@@ -158,26 +159,26 @@ one-more-at counts x c h = go (ℕ-discrete c x)
     go (yes e) = rw (eq-eqb c x e, e) (getD-set-same counts x (getD counts x 0 + 1) 0 h)
     go (no n) = rw (ne-eqb c x n, add-zero) (getD-set-other counts x c (getD counts x 0 + 1) 0 n)
 
-one-more-length : (counts : List ℕ) → length counts ≡ 64 → (x : ℕ) → length (one-more counts x) ≡ 64
+one-more-length : (counts : List ℕ) → length counts ≡ max-nodes → (x : ℕ) → length (one-more counts x) ≡ max-nodes
 one-more-length counts l x = length-set counts x (getD counts x 0 + 1) ∙ l
 
-pub one-more-fits : (counts : List ℕ) → length counts ≡ 64 → (x y : ℕ) → x < 64 → getD counts y 0 < 254 → getD (one-more counts x) y 0 < 255
+pub one-more-fits : (counts : List ℕ) → length counts ≡ max-nodes → (x y : ℕ) → x < max-nodes → getD counts y 0 < 254 → getD (one-more counts x) y 0 < 255
 one-more-fits counts l x y h m = omega (arith, one-more-at counts x y (omega arith), occurrences-few y (x ∷ []))
 
 -- The code counts the children of a node one by one.
-module _ (counts : List ℕ) (l : length counts ≡ 64) (w : ℕ) where
-  counted-as : {xs : List ℕ} → children w ≡ xs → tabulate (with-children counts xs) 64 ≡ counted-with counts w
-  counted-as e = ap (λ (xs : List ℕ). tabulate (with-children counts xs) 64) (sym e)
+module _ (counts : List ℕ) (l : length counts ≡ max-nodes) (w : ℕ) where
+  counted-as : {xs : List ℕ} → children w ≡ xs → tabulate (with-children counts xs) max-nodes ≡ counted-with counts w
+  counted-as e = ap (λ (xs : List ℕ). tabulate (with-children counts xs) max-nodes) (sym e)
 
   pub counted-none : children w ≡ [] → counts ≡ counted-with counts w
-  counted-none e = tabulate-of (with-children counts []) counts 64 0 l (λ c h. sym (add-zero (getD counts c 0))) ∙ counted-as e
+  counted-none e = tabulate-of (with-children counts []) counts max-nodes 0 l (λ c h. sym (add-zero (getD counts c 0))) ∙ counted-as e
 
-  pub counted-one : (x : ℕ) → x < 64 → children w ≡ x ∷ [] → one-more counts x ≡ counted-with counts w
-  counted-one x h e = tabulate-of (with-children counts (x ∷ [])) (one-more counts x) 64 0 (one-more-length counts l x) (λ c k. one-more-at counts x c (omega arith)) ∙ counted-as e
+  pub counted-one : (x : ℕ) → x < max-nodes → children w ≡ x ∷ [] → one-more counts x ≡ counted-with counts w
+  counted-one x h e = tabulate-of (with-children counts (x ∷ [])) (one-more counts x) max-nodes 0 (one-more-length counts l x) (λ c k. one-more-at counts x c (omega arith)) ∙ counted-as e
 
-  pub counted-two : (x y : ℕ) → x < 64 → y < 64 → children w ≡ x ∷ y ∷ [] → one-more (one-more counts x) y ≡ counted-with counts w
+  pub counted-two : (x y : ℕ) → x < max-nodes → y < max-nodes → children w ≡ x ∷ y ∷ [] → one-more (one-more counts x) y ≡ counted-with counts w
   counted-two x y h k e =
       let after = one-more counts x in let m = one-more-length counts l x in
-      tabulate-of (with-children counts (x ∷ y ∷ [])) (one-more after y) 64 0 (one-more-length after m y)
+      tabulate-of (with-children counts (x ∷ y ∷ [])) (one-more after y) max-nodes 0 (one-more-length after m y)
       (λ c i. one-more-at after y c (omega arith) ∙ ap (λ (n : ℕ). n + occurrences c (y ∷ [])) (one-more-at counts x c (omega arith)) ∙ add-assoc (getD counts c 0) (occurrences c (x ∷ [])) (occurrences c (y ∷ [])) ∙ ap (λ (n : ℕ). getD counts c 0 + n) (sym (occurrences-append c (x ∷ []) (y ∷ []))))
       ∙ counted-as e

@@ -15,7 +15,7 @@ use Rattle.calculus.specs.Sets.Laws.{in-one, in-append, from-union, union-appen
 use Rattle.calculus.specs.Lists.{tabulate}
 use Rattle.calculus.specs.Lists.Laws.{length-tabulate, tabulate-of, tabulate-same, tabulate-append}
 use Rattle.causes.specs.Causes.{Check, first-cause, widths-fit}
-use Rattle.query.specs.Reading.{version, count-of-nodes, count-of-constants, word-at, constants-of, nodes-of, header-checks, Bytes}
+use Rattle.query.specs.Reading.{version, count-of-nodes, count-of-constants, word-at, constants-of, nodes-of, header-checks, Bytes, max-nodes}
 use Rattle.query.specs.Packing.{word-bytes, header-bytes, packed-bytes}
 
 -- ---- lists
@@ -49,7 +49,7 @@ tabulated f ns h = sym (tabulate-of f ns (length ns) 0 refl (λ i l. sym (h i l)
 
 -- ---- the header
 
-header-clear : (ws bs : List ℕ) (rest : List Check) → T (widths-fit ws) → 2 ≤ length bs → version bs ≡ 1 → 1 ≤ count-of-nodes bs → count-of-nodes bs ≤ 64 → count-of-constants bs ≤ 16 → length bs ≡ 2 + 4 * count-of-constants bs + 4 * count-of-nodes bs → first-cause (header-checks ws bs ++ rest) ≡ first-cause rest
+header-clear : (ws bs : List ℕ) (rest : List Check) → T (widths-fit ws) → 2 ≤ length bs → version bs ≡ 1 → 1 ≤ count-of-nodes bs → count-of-nodes bs ≤ max-nodes → count-of-constants bs ≤ 16 → length bs ≡ 2 + 4 * count-of-constants bs + 4 * count-of-nodes bs → first-cause (header-checks ws bs ++ rest) ≡ first-cause rest
 header-clear ws bs rest t two v some few least e =
     rw (
       reflects-true (reflects-T (widths-fit ws)) t,
@@ -63,7 +63,7 @@ header-clear ws bs rest t two v some few least e =
 
 -- ---- the packed query
 
-module _ (cs ns : List ℕ) (some-node : 1 ≤ length ns) (few-nodes : length ns ≤ 64) (few-constants : length cs ≤ 16) where
+module _ (cs ns : List ℕ) (some-node : 1 ≤ length ns) (few-nodes : length ns ≤ max-nodes) (few-constants : length cs ≤ 16) where
   version-packed : version (packed-bytes cs ns) ≡ 1
   version-packed = omega arith
 
@@ -114,11 +114,11 @@ word-bytes-small w h b (there i) = second i
 bytes-small : (ns : List ℕ) → ((n : ℕ) → In n ns → n < 2 ^ 32) → (b : ℕ) → In b (union-of word-bytes ns) → b < 256
 bytes-small ns h b i = let r = from-union word-bytes ns i in word-bytes-small (r .0) (h (r .0) (r .1)) b (r .2)
 
-header-small : (n k : ℕ) → n ≤ 64 → k ≤ 16 → (b : ℕ) → In b (header-bytes n k) → b < 256
+header-small : (n k : ℕ) → n ≤ max-nodes → k ≤ 16 → (b : ℕ) → In b (header-bytes n k) → b < 256
 header-small n k hn hk b (here e) = omega arith
 header-small n k hn hk b (there i) = omega (arith, in-one i)
 
-pub packed-small : (cs ns : List ℕ) → length ns ≤ 64 → length cs ≤ 16 → ((c : ℕ) → In c cs → c < 2 ^ 32) → ((n : ℕ) → In n ns → n < 2 ^ 32) → (b : ℕ) → In b (packed-bytes cs ns) → b < 256
+pub packed-small : (cs ns : List ℕ) → length ns ≤ max-nodes → length cs ≤ 16 → ((c : ℕ) → In c cs → c < 2 ^ 32) → ((n : ℕ) → In n ns → n < 2 ^ 32) → (b : ℕ) → In b (packed-bytes cs ns) → b < 256
 packed-small cs ns hn hk fc fn b i =
     ⊎-elim
     (header-small (length ns) (length cs) hn hk b)

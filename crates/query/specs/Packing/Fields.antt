@@ -1,17 +1,19 @@
 -- The words that packing writes, read back field by field: each has no fault of its own, and gives its children and its formula.
-use Prim.Native.Nat.{ℕ, zero, suc, _+_, _*_, _/_, _%_, _≤_, _<_, _^_}
+use Prim.Native.Nat.{ℕ, zero, suc, _+_, _%_, _≤_, _<_, _^_}
 use native.Mathlib.Omega.{arith}
 use mathlib.Core.Path.{_≡_, refl, ap, subst}
-use mathlib.Core.Bool.{Bool, true, false, cond, _||_}
+use mathlib.Core.Bool.{Bool, true, false, _||_}
 use mathlib.Core.List.{List, [], _∷_, map}
 use lib.ListN.{length, getD, take, drop}
 use lib.Dec.{T}
 use borrow.Author.Tests.{eq-eqb, le-leb, lt-leb, ne-eqb}
 use Rattle.calculus.specs.Sets.{In, here, there, any-of}
 use Rattle.calculus.specs.Formula.{Term, var, con, Fmla, truth, rel, eq, neg, conj, disj, exists}
-use Rattle.query.specs.Nodes.{kind, relation, term-count, terms, variable, equal-term, left, right, under, children, nonzero, malformed, is-stray, strays, mismatched}
+use Rattle.query.specs.Nodes.{kind, relation, term-count, terms, variable, equal-term, left, right, under, children, nonzero, malformed, is-stray, strays, mismatched, truth-rest, record-rest, equality-rest, not-rest, join-rest, exists-rest, truth-word, record-word, equality-word, not-word, join-word, exists-word}
+use Rattle.query.specs.Nodes.Words.{equality-reads, not-reads, join-reads, exists-reads, record-reads}
+use Rattle.query.specs.Reading.{max-nodes}
 use Rattle.query.specs.Decoding.{term-of, node-formula}
-use Rattle.query.specs.Packing.{term-code, code-at, terms-code, TermFits, var-fits, con-fits}
+use Rattle.query.specs.Packing.{term-code, code-at, TermFits, var-fits, con-fits}
 
 -- ---- a well-formed word
 
@@ -19,13 +21,13 @@ use Rattle.query.specs.Packing.{term-code, code-at, terms-code, TermFits
 abbrev pub malformed-at : ℕ → ℕ → Bool
 malformed-at w j =
     getD
-    (nonzero (w % 268435456)
-    ∷ (nonzero (w % 4) || any-of nonzero (drop (term-count w) (terms w)))
-    ∷ nonzero (w % 1048576)
-    ∷ nonzero (w % 8388608)
-    ∷ nonzero (w % 131072)
-    ∷ nonzero (w % 131072)
-    ∷ nonzero (w % 524288)
+    (nonzero (truth-rest w)
+    ∷ (nonzero (record-rest w) || any-of nonzero (drop (term-count w) (terms w)))
+    ∷ nonzero (equality-rest w)
+    ∷ nonzero (not-rest w)
+    ∷ nonzero (join-rest w)
+    ∷ nonzero (join-rest w)
+    ∷ nonzero (exists-rest w)
     ∷ [])
     j
     true
@@ -59,33 +61,33 @@ pub record Built (ws : List ℕ) (k w : ℕ) (cs : List ℕ) (φ : (ℕ → Fmla
   pub decoded : (f : ℕ → Fmla) → node-formula w f ≡ φ f
 
 module _ (ws : List ℕ) (k : ℕ) where
-  pub truth-built : (b : Bool) → Built ws k (cond b 268435456 0) [] (λ f. truth b)
+  pub truth-built : (b : Bool) → Built ws k (truth-word b) [] (λ f. truth b)
   truth-built true = record { formed = refl; children-are = refl; held = refl; matched = refl; decoded = λ f. refl }
   truth-built false = record { formed = refl; children-are = refl; held = refl; matched = refl; decoded = λ f. refl }
 
-  not-read : (w l : ℕ) → kind w ≡ 3 → left w ≡ l → w % 8388608 ≡ 0 → Built ws k w (l ∷ []) (λ f. neg (f l))
+  not-read : (w l : ℕ) → kind w ≡ 3 → left w ≡ l → not-rest w ≡ 0 → Built ws k w (l ∷ []) (λ f. neg (f l))
   not-read w l e el ez = record { formed = rw (e, ez); children-are = rw (e, el); held = rw e; matched = rw e; decoded = λ f. rw (e, el) }
 
-  pub not-built : (l : ℕ) → l < 64 → Built ws k (3 * 536870912 + l * 8388608) (l ∷ []) (λ f. neg (f l))
-  not-built l h = not-read (3 * 536870912 + l * 8388608) l (omega arith) (omega arith) (omega arith)
+  pub not-built : (l : ℕ) → l < max-nodes → Built ws k (not-word l) (l ∷ []) (λ f. neg (f l))
+  not-built l h = let r = not-reads l h in not-read (not-word l) l (r .0) (r .1) (r .2)
 
-  two-read : (w l r : ℕ) → left w ≡ l → right w ≡ r → w % 131072 ≡ 0 → (kind w ≡ 4 → Built ws k w (l ∷ r ∷ []) (λ f. conj (f l) (f r))) × (kind w ≡ 5 → Built ws k w (l ∷ r ∷ []) (λ f. disj (f l) (f r)))
+  two-read : (w l r : ℕ) → left w ≡ l → right w ≡ r → join-rest w ≡ 0 → (kind w ≡ 4 → Built ws k w (l ∷ r ∷ []) (λ f. conj (f l) (f r))) × (kind w ≡ 5 → Built ws k w (l ∷ r ∷ []) (λ f. disj (f l) (f r)))
   two-read w l r el er ez = (
     λ e. record { formed = rw (e, ez); children-are = rw (e, el, er); held = rw e; matched = rw e; decoded = λ f. rw (e, el, er) },
     λ e. record { formed = rw (e, ez); children-are = rw (e, el, er); held = rw e; matched = rw e; decoded = λ f. rw (e, el, er) },
   )
 
-  pub and-built : (l r : ℕ) → l < 64 → r < 64 → Built ws k (4 * 536870912 + l * 8388608 + r * 131072) (l ∷ r ∷ []) (λ f. conj (f l) (f r))
-  and-built l r hl hr = two-read (4 * 536870912 + l * 8388608 + r * 131072) l r (omega arith) (omega arith) (omega arith) .0 (omega arith)
+  pub and-built : (l r : ℕ) → l < max-nodes → r < max-nodes → Built ws k (join-word 4 l r) (l ∷ r ∷ []) (λ f. conj (f l) (f r))
+  and-built l r hl hr = let q = join-reads 4 l r hl hr in two-read (join-word 4 l r) l r (q .1) (q .2) (q .3) .0 (q .0)
 
-  pub or-built : (l r : ℕ) → l < 64 → r < 64 → Built ws k (5 * 536870912 + l * 8388608 + r * 131072) (l ∷ r ∷ []) (λ f. disj (f l) (f r))
-  or-built l r hl hr = two-read (5 * 536870912 + l * 8388608 + r * 131072) l r (omega arith) (omega arith) (omega arith) .1 (omega arith)
+  pub or-built : (l r : ℕ) → l < max-nodes → r < max-nodes → Built ws k (join-word 5 l r) (l ∷ r ∷ []) (λ f. disj (f l) (f r))
+  or-built l r hl hr = let q = join-reads 5 l r hl hr in two-read (join-word 5 l r) l r (q .1) (q .2) (q .3) .1 (q .0)
 
-  exists-read : (w x l : ℕ) → kind w ≡ 6 → variable w ≡ x → under w ≡ l → w % 524288 ≡ 0 → Built ws k w (l ∷ []) (λ f. exists x (f l))
+  exists-read : (w x l : ℕ) → kind w ≡ 6 → variable w ≡ x → under w ≡ l → exists-rest w ≡ 0 → Built ws k w (l ∷ []) (λ f. exists x (f l))
   exists-read w x l e ex el ez = record { formed = rw (e, ez); children-are = rw (e, el); held = rw e; matched = rw e; decoded = λ f. rw (e, ex, el) }
 
-  pub exists-built : (x l : ℕ) → x < 16 → l < 64 → Built ws k (6 * 536870912 + x * 33554432 + l * 524288) (l ∷ []) (λ f. exists x (f l))
-  exists-built x l hx hl = exists-read (6 * 536870912 + x * 33554432 + l * 524288) x l (omega arith) (omega arith) (omega arith) (omega arith)
+  pub exists-built : (x l : ℕ) → x < 16 → l < max-nodes → Built ws k (exists-word x l) (l ∷ []) (λ f. exists x (f l))
+  exists-built x l hx hl = let r = exists-reads x l hx hl in exists-read (exists-word x l) x l (r .0) (r .1) (r .2) (r .3)
 
 -- ---- terms
 
@@ -137,37 +139,19 @@ codes-unused (a ∷ b ∷ c ∷ d ∷ e ∷ ts) h = absurd (omega arith)
 
 -- ---- equalities and records
 
-record-terms : (r n a b c d : ℕ) → a < 32 → b < 32 → c < 32 → d < 32 → terms (536870912 + r * 33554432 + n * 4194304 + (a * 131072 + b * 4096 + c * 128 + d * 4)) ≡ a ∷ b ∷ c ∷ d ∷ []
-record-terms r n a b c d ha hb hc hd = λ i. ea i ∷ eb i ∷ ec i ∷ ed i ∷ []
-  where
-    w : ℕ
-    w = 536870912 + r * 33554432 + n * 4194304 + (a * 131072 + b * 4096 + c * 128 + d * 4)
-
-    ea : w / 131072 % 32 ≡ a
-    ea = omega arith
-
-    eb : w / 4096 % 32 ≡ b
-    eb = omega arith
-
-    ec : w / 128 % 32 ≡ c
-    ec = omega arith
-
-    ed : w / 4 % 32 ≡ d
-    ed = omega arith
-
 module _ (ws : List ℕ) (k : ℕ) (few : k ≤ 16) where
-  equality-read : (w x : ℕ) (t : Term) → kind w ≡ 2 → variable w ≡ x → equal-term w ≡ term-code t → w % 1048576 ≡ 0 → TermFits k t → Built ws k w [] (λ f. eq x t)
+  equality-read : (w x : ℕ) (t : Term) → kind w ≡ 2 → variable w ≡ x → equal-term w ≡ term-code t → equality-rest w ≡ 0 → TermFits k t → Built ws k w [] (λ f. eq x t)
   equality-read w x t e ex et ez h =
       record { formed = rw (e, ez); children-are = rw e; held = rw (e, et, no-stray k few t h); matched = rw e; decoded = λ f. rw (e, ex, et, term-of-code k few t h) }
 
-  pub equality-built : (x : ℕ) (t : Term) → x < 16 → TermFits k t → Built ws k (2 * 536870912 + x * 33554432 + term-code t * 1048576) [] (λ f. eq x t)
+  pub equality-built : (x : ℕ) (t : Term) → x < 16 → TermFits k t → Built ws k (equality-word x (term-code t)) [] (λ f. eq x t)
   equality-built x t hx ht =
-      let hc : term-code t < 32 = code-below k few t ht in
-      equality-read (2 * 536870912 + x * 33554432 + term-code t * 1048576) x t (omega arith) (omega arith) (omega arith) (omega arith) ht
+      let r = equality-reads x (term-code t) hx (code-below k few t ht) in
+      equality-read (equality-word x (term-code t)) x t (r .0) (r .1) (r .2) (r .3) ht
 
   -- The relation and the terms of a record fit.
   module _ (r : ℕ) (ts : List Term) (some : 0 < length ts) (most : length ts ≤ 4) (wide : length ts ≡ getD ws r 0) (fit : (t : Term) → In t ts → TermFits k t) where
-    record-read : (w : ℕ) → kind w ≡ 1 → relation w ≡ r → term-count w ≡ length ts → terms w ≡ codes ts → w % 4 ≡ 0 → Built ws k w [] (λ f. rel r ts)
+    record-read : (w : ℕ) → kind w ≡ 1 → relation w ≡ r → term-count w ≡ length ts → terms w ≡ codes ts → record-rest w ≡ 0 → Built ws k w [] (λ f. rel r ts)
     record-read w e er en et ez =
         record {
           formed = rw (e, ez, en, et, codes-unused ts);
@@ -177,16 +161,8 @@ module _ (ws : List ℕ) (k : ℕ) (few : k ≤ 16) where
           decoded = λ f. rw (e, er, en, et, codes-taken ts, terms-of-codes k few ts fit);
         }
 
-    pub record-built : r < 16 → Built ws k (536870912 + r * 33554432 + length ts * 4194304 + terms-code ts) [] (λ f. rel r ts)
+    pub record-built : r < 16 → Built ws k (record-word r (length ts) (code-at ts 0) (code-at ts 1) (code-at ts 2) (code-at ts 3)) [] (λ f. rel r ts)
     record-built hr =
-        let a : code-at ts 0 < 32 = code-at-below k few ts fit 0 in
-        let b : code-at ts 1 < 32 = code-at-below k few ts fit 1 in
-        let c : code-at ts 2 < 32 = code-at-below k few ts fit 2 in
-        let d : code-at ts 3 < 32 = code-at-below k few ts fit 3 in
-        record-read
-        (536870912 + r * 33554432 + length ts * 4194304 + terms-code ts)
-        (omega arith)
-        (omega arith)
-        (omega arith)
-        (record-terms r (length ts) (code-at ts 0) (code-at ts 1) (code-at ts 2) (code-at ts 3) a b c d)
-        (omega arith)
+        let c = code-at-below k few ts fit in
+        let q = record-reads r (length ts) (code-at ts 0) (code-at ts 1) (code-at ts 2) (code-at ts 3) hr (omega arith) (c 0) (c 1) (c 2) (c 3) in
+        record-read (record-word r (length ts) (code-at ts 0) (code-at ts 1) (code-at ts 2) (code-at ts 3)) (q .0) (q .1) (q .2) (q .3) (q .4)

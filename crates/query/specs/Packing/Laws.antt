@@ -1,9 +1,8 @@
 -- Reading what packing wrote gives the same formula and the same constants: `read-pack`.
-use Prim.Native.Nat.{ℕ, suc, _+_, _*_, _-_, _≤_, _<_, _^_}
+use Prim.Native.Nat.{ℕ, suc, _+_, _-_, _≤_, _<_, _^_}
 use native.Mathlib.Nat.{zero-add, add-assoc}
 use native.Mathlib.Omega.{arith}
 use mathlib.Core.Path.{_≡_, refl, sym, ap, subst, subst⁻¹, _∙_}
-use mathlib.Core.Bool.{cond}
 use mathlib.Core.List.{List, [], _∷_, _++_}
 use lib.ListN.{length, getD, replicate, length-append, List·getD-append}
 use lib.Seq.{getD-append-add, take-append-seam}
@@ -17,9 +16,10 @@ use Rattle.calculus.specs.Generators.{columns}
 use Rattle.causes.specs.Causes.{first-cause, widths-fit}
 use Rattle.causes.specs.declared.Answer.the-variants.{Done}
 use Rattle.causes.specs.Causes.Laws.{width-fits}
+use Rattle.query.specs.Nodes.{truth-word, record-word, equality-word, not-word, join-word, exists-word}
 use Rattle.query.specs.Decoding.{root}
 use Rattle.query.specs.Reading.{read-checks, read-reply, read-of, accepted, nodes-of, count-of-constants, tree-checks, column-checks, columns-of, formula, max-nodes, max-constants, pool as pool-of}
-use Rattle.query.specs.Packing.{term-code, terms-code, words, pack, Fits, truth-fits, rel-fits, eq-fits, neg-fits, conj-fits, disj-fits, exists-fits, Packable, InOrder}
+use Rattle.query.specs.Packing.{term-code, code-at, words, pack, Fits, truth-fits, rel-fits, eq-fits, neg-fits, conj-fits, disj-fits, exists-fits, Packable, InOrder}
 use Rattle.query.specs.Packing.Fields.{Built, truth-built, not-built, and-built, or-built, exists-built, equality-built, record-built, formed-small}
 use Rattle.query.specs.Packing.Bytes.{constants-counted, constants-packed, nodes-packed, header-packed, packed-small}
 use Rattle.query.specs.Packing.Trees.{Tree, leaf, one, two, sound, tree-clear, tree-root}
@@ -95,21 +95,21 @@ module _ {ws : List ℕ} {k : ℕ} (ns : List ℕ) where
       (omega arith)
 
 module _ (ws : List ℕ) (k : ℕ) (fit : T (widths-fit ws)) (few : k ≤ 16) (ns : List ℕ) where
-  pub words-tree : (φ : Fmla) (n : ℕ) → Fits ws k φ → n + size φ ≤ 64 → Placed ns n (words φ n) → Tree ws k ns n (n + size φ - 1) φ
-  words-tree (truth b) n truth-fits h p = leaf-placed ns (truth b) n (cond b 268435456 0) refl p (truth-built ws k b)
+  pub words-tree : (φ : Fmla) (n : ℕ) → Fits ws k φ → n + size φ ≤ max-nodes → Placed ns n (words φ n) → Tree ws k ns n (n + size φ - 1) φ
+  words-tree (truth b) n truth-fits h p = leaf-placed ns (truth b) n (truth-word b) refl p (truth-built ws k b)
   words-tree (rel r ts) n (rel-fits hr some wide f) h p =
-      leaf-placed ns (rel r ts) n (536870912 + r * 33554432 + length ts * 4194304 + terms-code ts) refl p (record-built ws k few r ts some (omega (arith, width-fits ws fit r)) wide f hr)
-  words-tree (eq x t) n (eq-fits hx ht) h p = leaf-placed ns (eq x t) n (2 * 536870912 + x * 33554432 + term-code t * 1048576) refl p (equality-built ws k few x t hx ht)
+      leaf-placed ns (rel r ts) n (record-word r (length ts) (code-at ts 0) (code-at ts 1) (code-at ts 2) (code-at ts 3)) refl p (record-built ws k few r ts some (omega (arith, width-fits ws fit r)) wide f hr)
+  words-tree (eq x t) n (eq-fits hx ht) h p = leaf-placed ns (eq x t) n (equality-word x (term-code t)) refl p (equality-built ws k few x t hx ht)
   words-tree (neg φ) n (neg-fits f) h p =
-      one-placed ns neg φ n (3 * 536870912 + (n + size φ - 1) * 8388608) refl p (not-built ws k (n + size φ - 1) (omega arith)) (λ q. words-tree φ n f (omega arith) q)
+      one-placed ns neg φ n (not-word (n + size φ - 1)) refl p (not-built ws k (n + size φ - 1) (omega arith)) (λ q. words-tree φ n f (omega arith) q)
   words-tree (conj φ ψ) n (conj-fits f g) h p =
-      two-placed ns conj φ ψ n (4 * 536870912 + (n + size φ - 1) * 8388608 + (n + size φ + size ψ - 1) * 131072) refl p
+      two-placed ns conj φ ψ n (join-word 4 (n + size φ - 1) (n + size φ + size ψ - 1)) refl p
       (and-built ws k (n + size φ - 1) (n + size φ + size ψ - 1) (omega arith) (omega arith)) (λ q. words-tree φ n f (omega arith) q) (λ q. words-tree ψ (n + size φ) g (omega arith) q)
   words-tree (disj φ ψ) n (disj-fits f g) h p =
-      two-placed ns disj φ ψ n (5 * 536870912 + (n + size φ - 1) * 8388608 + (n + size φ + size ψ - 1) * 131072) refl p
+      two-placed ns disj φ ψ n (join-word 5 (n + size φ - 1) (n + size φ + size ψ - 1)) refl p
       (or-built ws k (n + size φ - 1) (n + size φ + size ψ - 1) (omega arith) (omega arith)) (λ q. words-tree φ n f (omega arith) q) (λ q. words-tree ψ (n + size φ) g (omega arith) q)
   words-tree (exists x φ) n (exists-fits hx f) h p =
-      one-placed ns (exists x) φ n (6 * 536870912 + x * 33554432 + (n + size φ - 1) * 524288) refl p (exists-built ws k x (n + size φ - 1) hx (omega arith)) (λ q. words-tree φ n f (omega arith) q)
+      one-placed ns (exists x) φ n (exists-word x (n + size φ - 1)) refl p (exists-built ws k x (n + size φ - 1) hx (omega arith)) (λ q. words-tree φ n f (omega arith) q)
 
 -- ---- reading what packing wrote
 
@@ -126,7 +126,7 @@ module _ (ws : List ℕ) (pool : Pool) (φ : Fmla) (t : T (widths-fit ws)) (p : 
   columns-clear : first-cause (column-checks (words φ 0)) ≡ Done
   columns-clear = rw (root-words, lt-leb 5 (length (columns φ)) (omega arith))
 
-  module _ (some : 1 ≤ length (words φ 0)) (few : length (words φ 0) ≤ 64) where
+  module _ (some : 1 ≤ length (words φ 0)) (few : length (words φ 0) ≤ max-nodes) where
     checks-clear : first-cause (read-checks ws (pack pool φ)) ≡ Done
     checks-clear =
         header-packed pool (words φ 0) some few (p .few-constants) ws (tree-checks ws (count-of-constants (pack pool φ)) (nodes-of (pack pool φ)) ++ column-checks (nodes-of (pack pool φ))) t

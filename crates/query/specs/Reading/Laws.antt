@@ -1,11 +1,11 @@
 -- Laws of the reader's reply: the header's checks and those of the nodes, one by one as the code makes them.
 use Prim.Native.Nat.{ℕ, _+_, _*_, _≤_, _<_}
 use native.Mathlib.Omega.{arith}
-use mathlib.Core.Path.{_≡_, sym, ap, _∙_}
+use mathlib.Core.Path.{_≡_, refl, sym, ap, _∙_}
 use mathlib.Core.Logic.{_≢_}
 use mathlib.Core.Bool.{Bool, true, false, not, _||_}
 use mathlib.Core.List.{List, [], _∷_, _++_}
-use lib.ListN.{length, take, drop, replicate}
+use lib.ListN.{length, getD, take, drop, replicate}
 use lib.Dec.{eqb, ltb}
 use lib.Seq.{take-at}
 use borrow.Author.Tests.{lt-ltb, le-ltb, eq-eqb, ne-eqb, ltb-false, eqb-true, eqb-false, not-false}
@@ -14,10 +14,11 @@ use Rattle.calculus.specs.Lists.Laws.{length-tabulate, padded-tabulate, or-fail
 use Rattle.calculus.specs.Generators.{columns}
 use Rattle.causes.specs.declared.Answer.{Answer}
 use Rattle.causes.specs.declared.Answer.the-variants.{Done, Refused}
-use Rattle.causes.specs.Causes.{Finding, clear, met, Check, check, first-cause, lowest, when, widths-fit}
-use Rattle.causes.specs.Causes.Laws.{then-done, then-refused, first-clear}
+use Rattle.causes.specs.Causes.{Finding, clear, met, Check, check, first-cause, lowest, when, widths-fit, place}
+use Rattle.causes.specs.Causes.Laws.{then-done, then-refused, first-clear, place-then, place-when, place-lowest}
+use Rattle.query.specs.Nodes.{malformed, misplaced, strays, mismatched}
 use Rattle.query.specs.Decoding.{root}
-use Rattle.query.specs.Reading.{max-nodes, max-constants, version, count-of-nodes, count-of-constants, word-at, constants-of, nodes-of, header-checks, tree-checks, column-checks, read-checks, refusal, accepted, read-reply, read-of}
+use Rattle.query.specs.Reading.{max-nodes, max-constants, max-columns, version, count-of-nodes, count-of-constants, word-at, constants-of, nodes-of, header-checks, tree-checks, column-checks, read-checks, refusal, accepted, read-reply, read-of}
 use Rattle.query.specs.Code.Judging.{node-fault, found-at}
 
 -- ---- the header
@@ -44,22 +45,22 @@ module _ {ws bs : List ℕ} {n k : ℕ} (c : Counted ws bs n k) where
   some : n ≢ 0 → eqb (count-of-nodes bs) 0 ≡ false
   some m = ne-eqb (count-of-nodes bs) 0 (λ e. m (c .nodes ∙ e))
 
-  few : n ≤ 64 → ltb 64 (count-of-nodes bs) ≡ false
-  few m = le-ltb 64 (count-of-nodes bs) (omega arith)
+  few : n ≤ max-nodes → ltb max-nodes (count-of-nodes bs) ≡ false
+  few m = le-ltb max-nodes (count-of-nodes bs) (omega arith)
 
   few-constants : k ≤ 16 → ltb 16 (count-of-constants bs) ≡ false
   few-constants m = le-ltb 16 (count-of-constants bs) (omega arith)
 
-  pub many-nodes : n ≢ 0 → 64 < n → Refused 4 0 ≡ first-cause (header-checks ws bs)
-  many-nodes m h = let l : 64 < count-of-nodes bs = omega arith in rw (c .widths, le-ltb (length bs) 2 (c .long), c .first, some m, lt-ltb 64 (count-of-nodes bs) l)
+  pub many-nodes : n ≢ 0 → max-nodes < n → Refused 4 0 ≡ first-cause (header-checks ws bs)
+  many-nodes m h = let l : max-nodes < count-of-nodes bs = omega arith in rw (c .widths, le-ltb (length bs) 2 (c .long), c .first, some m, lt-ltb max-nodes (count-of-nodes bs) l)
 
-  pub many-constants : n ≢ 0 → n ≤ 64 → 16 < k → Refused 4 0 ≡ first-cause (header-checks ws bs)
+  pub many-constants : n ≢ 0 → n ≤ max-nodes → 16 < k → Refused 4 0 ≡ first-cause (header-checks ws bs)
   many-constants m l h = let g : 16 < count-of-constants bs = omega arith in rw (c .widths, le-ltb (length bs) 2 (c .long), c .first, some m, few l, lt-ltb 16 (count-of-constants bs) g)
 
-  pub other-length : n ≢ 0 → n ≤ 64 → k ≤ 16 → length bs ≢ 2 + 4 * k + 4 * n → Refused 5 0 ≡ first-cause (header-checks ws bs)
+  pub other-length : n ≢ 0 → n ≤ max-nodes → k ≤ 16 → length bs ≢ 2 + 4 * k + 4 * n → Refused 5 0 ≡ first-cause (header-checks ws bs)
   other-length m l h d = rw (c .widths, le-ltb (length bs) 2 (c .long), c .first, some m, few l, few-constants h, ne-eqb (length bs) (2 + 4 * count-of-constants bs + 4 * count-of-nodes bs) (λ e. d (omega arith)))
 
-  pub all-passed : n ≢ 0 → n ≤ 64 → k ≤ 16 → length bs ≡ 2 + 4 * k + 4 * n → Done ≡ first-cause (header-checks ws bs)
+  pub all-passed : n ≢ 0 → n ≤ max-nodes → k ≤ 16 → length bs ≡ 2 + 4 * k + 4 * n → Done ≡ first-cause (header-checks ws bs)
   all-passed m l h d = let e : length bs ≡ 2 + 4 * count-of-constants bs + 4 * count-of-nodes bs = omega arith in rw (c .widths, le-ltb (length bs) 2 (c .long), c .first, some m, few l, few-constants h, eq-eqb (length bs) (2 + 4 * count-of-constants bs + 4 * count-of-nodes bs) e)
 
 -- What the header's checks say where they find nothing.
@@ -67,7 +68,7 @@ pub record Headed (bs : List ℕ) : Type 0 where
   pub long : 2 ≤ length bs
   pub first : version bs ≡ 1
   pub some-nodes : 1 ≤ count-of-nodes bs
-  pub few-nodes : count-of-nodes bs ≤ 64
+  pub few-nodes : count-of-nodes bs ≤ max-nodes
   pub few-constants : count-of-constants bs ≤ 16
   pub whole : length bs ≡ 2 + 4 * count-of-constants bs + 4 * count-of-nodes bs
 
@@ -89,9 +90,9 @@ header-done ws bs a e d =
     let v = or-fails (ltb (length bs) 2) (not (eqb (version bs) 1)) (s₃ .0) in
     let c = or-fails (eqb (count-of-nodes bs) 0 || ltb max-nodes (count-of-nodes bs)) (ltb max-constants (count-of-constants bs)) (s₄ .0) in
     let n = or-fails (eqb (count-of-nodes bs) 0) (ltb max-nodes (count-of-nodes bs)) (c .0) in
-    headed-from bs (ltb-false (length bs) 2 (v .0)) (eqb-true (version bs) 1 (not-false (eqb (version bs) 1) (v .1))) (eqb-false (count-of-nodes bs) 0 (n .0)) (ltb-false 64 (count-of-nodes bs) (n .1)) (ltb-false 16 (count-of-constants bs) (c .1)) (eqb-true (length bs) (2 + 4 * count-of-constants bs + 4 * count-of-nodes bs) (not-false (eqb (length bs) (2 + 4 * count-of-constants bs + 4 * count-of-nodes bs)) (s₅ .0)))
+    headed-from bs (ltb-false (length bs) 2 (v .0)) (eqb-true (version bs) 1 (not-false (eqb (version bs) 1) (v .1))) (eqb-false (count-of-nodes bs) 0 (n .0)) (ltb-false max-nodes (count-of-nodes bs) (n .1)) (ltb-false 16 (count-of-constants bs) (c .1)) (eqb-true (length bs) (2 + 4 * count-of-constants bs + 4 * count-of-nodes bs) (not-false (eqb (length bs) (2 + 4 * count-of-constants bs + 4 * count-of-nodes bs)) (s₅ .0)))
   where
-    headed-from : (bs : List ℕ) → 2 ≤ length bs → version bs ≡ 1 → count-of-nodes bs ≢ 0 → count-of-nodes bs ≤ 64 → count-of-constants bs ≤ 16 → length bs ≡ 2 + 4 * count-of-constants bs + 4 * count-of-nodes bs → Headed bs
+    headed-from : (bs : List ℕ) → 2 ≤ length bs → version bs ≡ 1 → count-of-nodes bs ≢ 0 → count-of-nodes bs ≤ max-nodes → count-of-constants bs ≤ 16 → length bs ≡ 2 + 4 * count-of-constants bs + 4 * count-of-nodes bs → Headed bs
     headed-from bs a v b c d e = record { long = a; first = v; some-nodes = omega arith; few-nodes = c; few-constants = d; whole = e }
 
 -- ---- the nodes
@@ -121,6 +122,44 @@ module _ (ws : List ℕ) (k : ℕ) (ns : List ℕ) where
 
   pub tree-done : fault 6 ≡ clear → fault 7 ≡ clear → fault 8 ≡ clear → fault 9 ≡ clear → Done ≡ first-cause (tree-checks ws k ns)
   tree-done c₆ c₇ c₈ c₉ = rw (c₆, c₇, c₈, c₉)
+
+-- ---- the place
+
+-- A reading names a node, or 0.
+pub read-place : (ws bs : List ℕ) → place (first-cause (read-checks ws bs)) < max-nodes
+read-place ws bs = go (first-cause (header-checks ws bs)) refl
+  where
+    ns : List ℕ
+    ns = nodes-of bs
+
+    rest : List Check
+    rest = tree-checks ws (count-of-constants bs) ns ++ column-checks ns
+
+    header : place (first-cause (header-checks ws bs)) < max-nodes
+    header =
+        place-when 1 (not (widths-fit ws)) (check 3 (when (bad-version bs)) ∷ check 4 (when (bad-counts bs)) ∷ length-checks bs)
+        (place-when 3 (bad-version bs) (check 4 (when (bad-counts bs)) ∷ length-checks bs)
+        (place-when 4 (bad-counts bs) (length-checks bs)
+        (place-when 5 (not (eqb (length bs) (2 + 4 * count-of-constants bs + 4 * count-of-nodes bs))) [] (omega arith))))
+
+    columns-place : place (first-cause (column-checks ns)) < max-nodes
+    columns-place = place-when 10 (ltb max-columns (length (columns (root ns)))) [] (omega arith)
+
+    tree : length ns ≤ max-nodes → place (first-cause rest) < max-nodes
+    tree l =
+        let mismatch = check 9 (lowest (λ i. mismatched ws (getD ns i 0)) (length ns)) ∷ column-checks ns in
+        let stray = check 8 (lowest (λ i. strays (count-of-constants bs) (getD ns i 0)) (length ns)) ∷ mismatch in
+        let place-7 = check 7 (lowest (misplaced ns) (length ns)) ∷ stray in
+        place-lowest 6 (λ i. malformed (getD ns i 0)) (length ns) place-7 l
+        (place-lowest 7 (misplaced ns) (length ns) stray l
+        (place-lowest 8 (λ i. strays (count-of-constants bs) (getD ns i 0)) (length ns) mismatch l
+        (place-lowest 9 (λ i. mismatched ws (getD ns i 0)) (length ns) (column-checks ns) l columns-place)))
+
+    go : (a : Answer) → first-cause (header-checks ws bs) ≡ a → place (first-cause (read-checks ws bs)) < max-nodes
+    go Done e =
+        let l : length ns ≤ max-nodes = omega (arith, length-tabulate (λ i. word-at bs (2 + 4 * count-of-constants bs + 4 * i)) (count-of-nodes bs), header-done ws bs Done (sym e) refl .few-nodes) in
+        place-then (header-checks ws bs) rest header (tree l)
+    go (Refused n p) e = omega (arith, header, ap place e, ap place (then-refused (header-checks ws bs) rest n p e))
 
 -- ---- the reply, as the code comes to it
 
@@ -155,7 +194,7 @@ pub record Fitting (bs : List ℕ) (n k : ℕ) : Type 0 where
   pub nodes : n ≡ count-of-nodes bs
   pub constants : k ≡ count-of-constants bs
   pub some-nodes : 1 ≤ n
-  pub few-nodes : n ≤ 64
+  pub few-nodes : n ≤ max-nodes
   pub few-constants : k ≤ 16
   pub whole : length bs ≡ 2 + 4 * k + 4 * n
 
@@ -171,12 +210,12 @@ module _ {bs : List ℕ} {n k : ℕ} (f : Fitting bs n k) (out : List ℕ) where
       ∙ ap (λ (j : ℕ). tabulate (λ i. word-at bs (2 + 4 * j + 4 * i)) n) (f .constants)
       ∙ ap (tabulate (λ i. word-at bs (2 + 4 * count-of-constants bs + 4 * i))) (f .nodes)
 
-  pub nodes-padded : out ≡ tabulate (λ i. word-at bs (2 + 4 * k + 4 * i)) n ++ drop n (replicate 64 0) → out ≡ padded 64 0 (nodes-of bs)
+  pub nodes-padded : out ≡ tabulate (λ i. word-at bs (2 + 4 * k + 4 * i)) n ++ drop n (replicate max-nodes 0) → out ≡ padded max-nodes 0 (nodes-of bs)
   nodes-padded e =
       e
-      ∙ padded-tabulate (λ i. word-at bs (2 + 4 * k + 4 * i)) 64 n 0
-      ∙ ap (λ (j : ℕ). padded 64 0 (tabulate (λ i. word-at bs (2 + 4 * j + 4 * i)) n)) (f .constants)
-      ∙ ap (λ (m : ℕ). padded 64 0 (tabulate (λ i. word-at bs (2 + 4 * count-of-constants bs + 4 * i)) m)) (f .nodes)
+      ∙ padded-tabulate (λ i. word-at bs (2 + 4 * k + 4 * i)) max-nodes n 0
+      ∙ ap (λ (j : ℕ). padded max-nodes 0 (tabulate (λ i. word-at bs (2 + 4 * j + 4 * i)) n)) (f .constants)
+      ∙ ap (λ (m : ℕ). padded max-nodes 0 (tabulate (λ i. word-at bs (2 + 4 * count-of-constants bs + 4 * i)) m)) (f .nodes)
 
   pub constants-padded : out ≡ tabulate (λ i. word-at bs (2 + 4 * i)) k ++ drop k (replicate 16 0) → out ≡ padded 16 0 (constants-of bs)
   constants-padded e =

@@ -1,5 +1,5 @@
--- `standing::cause` meets its contract: the tests are those of the causes 17 to 19 in turn. At most 512 rows of at most four columns are at most 2048 numbers.
-use Rattle.standing.proofs.Settling.{few-numbers}
+-- `standing::cause` meets its contract: the tests are those of the causes 17 to 19 in turn. At most `max-rows` rows of at most four columns are few numbers.
+use Rattle.standing.proofs.Maintaining.{few-numbers}
 use native.Mathlib.Omega.{arith}
 use borrow.Author.Needs.{needs}
 use mathlib.Core.Path.{sym}

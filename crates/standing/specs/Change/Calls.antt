@@ -20,17 +20,17 @@ use Rattle.query.specs.Reading.{formula}
 use Rattle.answer.specs.Reply.{result-of, query-read}
 use Rattle.standing.specs.declared.View.{View}
 use Rattle.standing.specs.declared.Change.{Change}
-use Rattle.standing.specs.View.{rows-in, kept, suits}
+use Rattle.standing.specs.View.{max-rows, rows-in, kept, suits}
 use Rattle.standing.specs.View.Difference.{only-in-fewer}
 use Rattle.standing.specs.View.Layout.{suited}
 use Rattle.standing.specs.Checks.{Kind, put, removal, view-checks, record-checks, is-over}
 use Rattle.standing.specs.Change.Turn.{report-clear}
 use Rattle.standing.specs.Change.{joining, leaving, begin-checks, refusal, turn-checks, turn-reply, store-after, ready-checks, change-of}
-use Rattle.standing.specs.Code.Change.{settled}
+use Rattle.standing.specs.Code.Change.{maintained}
 
--- At most 512 rows joined, and at most 512 left.
+-- At most `max-rows` rows joined, and at most as many left.
 abbrev pub FewTold : Change × (List ℕ × List ℕ) → Type 0
-FewTold x = (x .0 .joined ≤ 512) × (x .0 .left ≤ 512)
+FewTold x = (x .0 .joined ≤ max-rows) × (x .0 .left ≤ max-rows)
 
 -- The counts grow by the numbers told; a refusal tells none, and leaves them.
 abbrev pub Grown : View → Change × (List ℕ × List ℕ) → Type 0
@@ -93,13 +93,13 @@ module _ (kind : Kind) (s : Store) (v : View) (bs : List ℕ) (r : Record) (firs
     change-refused n p e = change-by (Refused n p) (then-done (ready-checks s v bs) (record-causes ++ turn-causes) ready ∙ then-refused record-causes turn-causes n p e)
 
     -- None of them is: the causes 17 to 19 are left.
-    pub change-settled : first-cause (record-checks kind (s .widths) (held s) r) ≡ Done → change-of kind s v bs r first second ≡ settled s (store-after kind s r) v (query-read s bs) first second
-    change-settled e = change-by (first-cause turn-causes) (then-done (ready-checks s v bs) (record-causes ++ turn-causes) ready ∙ then-done record-causes turn-causes e)
+    pub change-maintained : first-cause (record-checks kind (s .widths) (held s) r) ≡ Done → change-of kind s v bs r first second ≡ maintained s (store-after kind s r) v (query-read s bs) first second
+    change-maintained e = change-by (first-cause turn-causes) (then-done (ready-checks s v bs) (record-causes ++ turn-causes) ready ∙ then-done record-causes turn-causes e)
 
   -- ---- how many rows are told
 
-  -- Where no cause is met, the rows held before and those found anew are at most 512; a list in memory has four column places.
-  few-rows : length (v .columns .variables) ≡ 4 → first-cause (ready-checks s v bs ++ (record-causes ++ turn-causes)) ≡ Done → (length (rows-in v) ≤ 512) × (length (kept (result-of (store-after kind s r) (query-read s bs))) ≤ 512)
+  -- Where no cause is met, the rows held before and those found anew are at most `max-rows`; a list in memory has four column places.
+  few-rows : length (v .columns .variables) ≡ 4 → first-cause (ready-checks s v bs ++ (record-causes ++ turn-causes)) ≡ Done → (length (rows-in v) ≤ max-rows) × (length (kept (result-of (store-after kind s r) (query-read s bs))) ≤ max-rows)
   few-rows places e =
       let cols : List ℕ = columns (formula (query-read s bs)) in
       let found : Result = result-of (store-after kind s r) (query-read s bs) in
@@ -108,11 +108,11 @@ module _ (kind : Kind) (s : Store) (v : View) (bs : List ℕ) (r : Record) (firs
       let ready = first-done (ready-checks s v bs) (record-causes ++ turn-causes) e in
       let turned = later-done record-causes turn-causes (later-done (ready-checks s v bs) (record-causes ++ turn-causes) e) in
       let l = suited v cols places (first-passed 12 (suits v cols) [] (later-done (begin-checks s bs) (view-checks v cols) ready) .0) in (
-        subst⁻¹ (λ n. n ≤ 512) (l .count-is) (l .few-rows),
-        ltb-false 512 (length (kept found)) (report-clear (is-over (length (kept found))) (v .opening ∷ (v .joined + j) ∷ (v .left + m) ∷ []) (length cols) j m (length first) (length second) turned .0),
+        subst⁻¹ (λ n. n ≤ max-rows) (l .count-is) (l .few-rows),
+        ltb-false max-rows (length (kept found)) (report-clear (is-over (length (kept found))) (v .opening ∷ (v .joined + j) ∷ (v .left + m) ∷ []) (length cols) j m (length first) (length second) turned .0),
       )
 
-  -- So at most 512 rows join, and at most 512 leave; a refusal tells none.
+  -- So at most `max-rows` rows join, and at most as many leave; a refusal tells none.
   pub few-told : length (v .columns .variables) ≡ 4 → FewTold (change-of kind s v bs r first second)
   few-told places = go (first-cause (ready-checks s v bs ++ (record-causes ++ turn-causes))) refl
     where

@@ -15,17 +15,64 @@ use Rattle.tables.specs.declared.Store.{Store}
 use Rattle.tables.specs.Store.{store-checks, judgement}
 use Rattle.tables.specs.Store.Laws.{judged-layout}
 use Rattle.query.specs.declared.Reading.{Reading}
-use Rattle.query.specs.Reading.{max-columns, constants-of, nodes-of, read-checks, read-reply, formula, columns-of, read-of, variables-in}
+use Rattle.query.specs.Reading.{max-columns, constants-of, nodes-of, read-checks, refusal, read-reply, formula, columns-of, read-of, variables-in}
 use Rattle.query.specs.Accepted.{Accepted}
-use Rattle.query.specs.Accepted.Laws.{read-cause, read-few, read-columns, reading-accepted}
+use Rattle.query.specs.Accepted.Laws.{read-few, read-columns, reading-accepted}
 use Rattle.answer.specs.Reply.{result-of, query-read}
-use Rattle.answer.specs.Code.Reply.{Evaluable}
+use Rattle.answer.specs.Code.Reply.{Answerable}
 use Rattle.standing.specs.declared.View.{View}
 use Rattle.standing.specs.View.{suits}
 use Rattle.standing.specs.Checks.{view-checks}
 use Rattle.standing.specs.Change.{begin-checks, over-checks, refused-opening, opening-reply, opened-of, ready-checks}
 use Rattle.standing.specs.Code.Change.{current, begun, readied}
 use Rattle.standing.specs.Change.Turn.{too-many, all-kept, over-is}
+
+-- ---- the query as read, or a refusal
+
+-- A reader's reply carries its answer.
+read-answer : (a : Answer) (cs ns : List ℕ) → read-reply a cs ns .answer ≡ a
+read-answer Done cs ns = refl
+read-answer (Refused n p) cs ns = refl
+
+module _ (s : Store) (bs : List ℕ) where
+  -- The reply by the first cause met.
+  abbrev replied : Answer → Reading
+  replied a = read-reply a (constants-of bs) (nodes-of bs)
+
+  -- Its answer is the first of the causes 1 to 10.
+  pub begun-cause : (a : Answer) → begun s bs .answer ≡ a → first-cause (begin-checks s bs) ≡ a
+  begun-cause a e = sym (read-answer (first-cause (begin-checks s bs)) (constants-of bs) (nodes-of bs)) ∙ e
+
+  -- The store is refused.
+  pub begun-refused : (n p : ℕ) → judgement s ≡ Refused n p → refusal n p ≡ begun s bs
+  begun-refused n p e = ap replied (sym (then-refused (store-checks s) (read-checks (s .widths) bs) n p e))
+
+  -- Where the store meets no cause, the query decides.
+  pub begun-reading : judgement s ≡ Done → read-of (s .widths) bs ≡ begun s bs
+  begun-reading judged = ap replied (sym (then-done (store-checks s) (read-checks (s .widths) bs) judged))
+
+  module _ (v : View) where
+    abbrev wanted : List ℕ
+    wanted = columns (formula (query-read s bs))
+
+    -- The answer of `ready` is the first of the causes 1 to 10 and 12.
+    pub readied-cause : (a : Answer) → readied s v bs .answer ≡ a → first-cause (ready-checks s v bs) ≡ a
+    readied-cause a e = sym (read-answer (first-cause (ready-checks s v bs)) (constants-of bs) (nodes-of bs)) ∙ e
+
+    -- Store or query are refused.
+    pub readied-refused : (n p : ℕ) → first-cause (begin-checks s bs) ≡ Refused n p → begun s bs ≡ readied s v bs
+    readied-refused n p e = ap replied (e ∙ sym (then-refused (begin-checks s bs) (view-checks v wanted) n p e))
+
+    -- Where store and query meet no cause, the list decides.
+    module _ (done : first-cause (begin-checks s bs) ≡ Done) where
+      list-decides : (b : Bool) → suits v wanted ≡ b → first-cause (ready-checks s v bs) ≡ first-cause (check 12 (when (not b)) ∷ [])
+      list-decides b t = then-done (begin-checks s bs) (view-checks v wanted) done ∙ ap (λ c. first-cause (check 12 (when (not c)) ∷ [])) t
+
+      pub readied-suited : suits v wanted ≡ true → begun s bs ≡ readied s v bs
+      readied-suited t = ap replied (done ∙ sym (list-decides true t))
+
+      pub readied-unsuited : suits v wanted ≡ false → refusal 12 0 ≡ readied s v bs
+      readied-unsuited f = ap replied (sym (list-decides false f))
 
 -- ---- causes 1 to 10 are not met
 
@@ -34,7 +81,11 @@ module _ (s : Store) (bs : List ℕ) (done : first-cause (begin-checks s bs) ≡
   pub begun-judged : judgement s ≡ Done
   begun-judged = first-done (store-checks s) (read-checks (s .widths) bs) done
 
-  -- The query is accepted.
+  -- The query is read,
+  pub begun-is : begun s bs ≡ read-of (s .widths) bs
+  begun-is = sym (begun-reading s bs begun-judged)
+
+  -- and accepted.
   reads : first-cause (read-checks (s .widths) bs) ≡ Done
   reads = later-done (store-checks s) (read-checks (s .widths) bs) done
 
@@ -53,50 +104,21 @@ module _ (s : Store) (bs : List ℕ) (done : first-cause (begin-checks s bs) ≡
   begun-variables = let cols : List ℕ = columns (formula (query-read s bs)) in ap variables-in begun-columns ∙ take-append-seam cols (replicate (max-columns - length cols) 0)
 
   -- The query read can be evaluated over every store in the layout that has the widths, the constants being 32-bit numbers.
-  pub begun-evaluable : ((i : ℕ) → getD (query-read s bs .constants) i 0 < 2 ^ 32) → (t : Store) → t .widths ≡ s .widths → judgement t ≡ Done → Evaluable t (query-read s bs) (read-of (s .widths) bs .columns)
-  begun-evaluable small t w judged =
+  pub begun-answerable : ((i : ℕ) → getD (query-read s bs .constants) i 0 < 2 ^ 32) → (t : Store) → t .widths ≡ s .widths → judgement t ≡ Done → Answerable t (query-read s bs) (read-of (s .widths) bs .columns)
+  begun-answerable small t w judged =
       record {
         layout = judged-layout t judged .1;
         accepted = subst⁻¹ (λ ws. Accepted ws (query-read s bs)) w (reading-accepted (s .widths) bs small begun-read);
         columns-are = begun-columns;
       }
 
--- ---- the query as read, with the first of the causes 1 to 10 and of 12
-
--- A reading with another answer.
-abbrev pub answered : Answer → Reading → Reading
-answered a r = record { answer = a; query = r .query; columns = r .columns }
-
-module _ (s : Store) (bs : List ℕ) where
-  -- The store is refused.
-  pub begun-refused : (n p : ℕ) → judgement s ≡ Refused n p → answered (Refused n p) (read-of (s .widths) bs) ≡ begun s bs
-  begun-refused n p e = ap (λ a. answered a (read-of (s .widths) bs)) (sym (then-refused (store-checks s) (read-checks (s .widths) bs) n p e))
-
-  -- Where the store meets no cause, the query decides.
-  pub begun-reading : judgement s ≡ Done → read-of (s .widths) bs ≡ begun s bs
-  begun-reading judged = ap (λ a. answered a (read-of (s .widths) bs)) (sym (then-done (store-checks s) (read-checks (s .widths) bs) judged ∙ read-cause (s .widths) bs (read-of (s .widths) bs .answer) refl))
-
-  module _ (v : View) where
-    abbrev wanted : List ℕ
-    wanted = columns (formula (query-read s bs))
-
-    -- Store or query are refused.
-    pub readied-refused : (n p : ℕ) → begun s bs .answer ≡ Refused n p → begun s bs ≡ readied s v bs
-    readied-refused n p e = ap (λ a. answered a (begun s bs)) (e ∙ sym (then-refused (begin-checks s bs) (view-checks v wanted) n p e))
-
-    -- Where store and query meet no cause, the list decides.
-    list-decides : begun s bs .answer ≡ Done → (b : Bool) → suits v wanted ≡ b → first-cause (ready-checks s v bs) ≡ first-cause (check 12 (when (not b)) ∷ [])
-    list-decides e b t = then-done (begin-checks s bs) (view-checks v wanted) e ∙ ap (λ c. first-cause (check 12 (when (not c)) ∷ [])) t
-
-    pub readied-suited : begun s bs .answer ≡ Done → suits v wanted ≡ true → begun s bs ≡ readied s v bs
-    readied-suited e t = ap (λ a. answered a (begun s bs)) (e ∙ sym (list-decides e true t))
-
-    pub readied-unsuited : begun s bs .answer ≡ Done → suits v wanted ≡ false → answered (Refused 12 0) (begun s bs) ≡ readied s v bs
-    readied-unsuited e f = ap (λ a. answered a (begun s bs)) (sym (list-decides e false f))
+  -- Nor is 12.
+  pub readied-is : (v : View) → first-cause (ready-checks s v bs) ≡ Done → readied s v bs ≡ read-of (s .widths) bs
+  readied-is v ready = ap (replied s bs) (ready ∙ sym done) ∙ begun-is
 
 -- ---- rows found anew
 
--- Rows that are not over 512 are kept, with the mark.
+-- Rows that are not over `max-rows` are kept, with the mark.
 pub kept-by-mark : (found : Result) → current found .over ≡ false → current found ≡ all-kept found
 kept-by-mark found e = ap (λ b. cond b too-many (all-kept found)) (sym (over-is found) ∙ e)
 

@@ -28,10 +28,10 @@ use Rattle.answer.specs.Reply.{result-of}
 use Rattle.standing.specs.declared.View.{View}
 use Rattle.standing.specs.declared.Current.{Current}
 use Rattle.standing.specs.declared.Change.{Change}
-use Rattle.standing.specs.View.{stored, kept, mark}
+use Rattle.standing.specs.View.{max-rows, stored, kept, mark}
 use Rattle.standing.specs.Checks.{is-over, is-past, report-checks}
 use Rattle.standing.specs.Change.{joining, leaving, turn-reply, refusal}
-use Rattle.standing.specs.Code.Change.{current, settled}
+use Rattle.standing.specs.Code.Change.{current, maintained}
 
 -- ---- what a query answers
 
@@ -119,20 +119,20 @@ module _ (x y n m k a b : ℕ) where
 
 -- ---- the rows found anew
 
--- What is found anew where the rows are over 512.
+-- What is found anew where the rows are over `max-rows`.
 abbrev pub too-many : Current
 too-many = record { over = true; endless = false; rows = stored [] }
 
--- What is found anew where the rows are at most 512.
+-- What is found anew where the rows are at most `max-rows`.
 abbrev pub all-kept : Result → Current
 all-kept found = record { over = false; endless = mark found; rows = stored (kept found) }
 
 -- What is found anew is one of these two, by the number of rows.
-pub current-over : (found : Result) → 512 < length (kept found) → current found ≡ too-many
-current-over found h = ap (λ b. cond b too-many (all-kept found)) (lt-ltb 512 (length (kept found)) h)
+pub current-over : (found : Result) → max-rows < length (kept found) → current found ≡ too-many
+current-over found h = ap (λ b. cond b too-many (all-kept found)) (lt-ltb max-rows (length (kept found)) h)
 
-pub current-kept : (found : Result) → length (kept found) ≤ 512 → current found ≡ all-kept found
-current-kept found h = ap (λ b. cond b too-many (all-kept found)) (le-ltb 512 (length (kept found)) h)
+pub current-kept : (found : Result) → length (kept found) ≤ max-rows → current found ≡ all-kept found
+current-kept found h = ap (λ b. cond b too-many (all-kept found)) (le-ltb max-rows (length (kept found)) h)
 
 -- Which it is can be read off.
 pub over-is : (found : Result) → current found .over ≡ is-over (length (kept found))
@@ -154,18 +154,19 @@ module _ (s t : Store) (v : View) (q : Query) (first second : List ℕ) where
   abbrev replied : Answer → Change × (List ℕ × List ℕ)
   replied a = turn-reply a s t v cols found first second
 
-  -- The rows are over 512.
-  pub settled-over : is-over (length (kept found)) ≡ true → settled s t v q first second ≡ (refusal 17 0 s v, (first, second))
-  settled-over e =
+  -- The rows are over `max-rows`.
+  pub maintained-over : is-over (length (kept found)) ≡ true → maintained s t v q first second ≡ (refusal 17 0 s v, (first, second))
+  maintained-over e =
       let j : ℕ = length (joining v found) in
       let l : ℕ = length (leaving v found) in
       ap (λ b. replied (first-cause (report-checks b (v .opening ∷ (v .joined + j) ∷ (v .left + l) ∷ []) (length cols) j l (length first) (length second)))) e
 
-  -- Where the rows are at most 512, and the count of rows at opening is of 64 bits, as that of every list in memory, the other two counts and the buffers decide.
-  pub settled-by : is-over (length (kept found)) ≡ false → is-past (v .opening) ≡ false → (a : Answer) →
+  -- Where the rows are at most `max-rows`, and the count of rows at opening is of 64 bits, as that of every list in memory, the other two counts and the buffers
+  -- decide.
+  pub maintained-by : is-over (length (kept found)) ≡ false → is-past (v .opening) ≡ false → (a : Answer) →
       a ≡ first-cause (report-checks false ((v .joined + length (joining v found)) ∷ (v .left + length (leaving v found)) ∷ []) (length cols) (length (joining v found)) (length (leaving v found)) (length first) (length second)) →
-      settled s t v q first second ≡ replied a
-  settled-by o p a e =
+      maintained s t v q first second ≡ replied a
+  maintained-by o p a e =
       let j : ℕ = length (joining v found) in
       let l : ℕ = length (leaving v found) in
       (λ i. replied (first-cause (check 17 (when (o i || (p i || any-of is-past ((v .joined + j) ∷ (v .left + l) ∷ [])))) ∷ check 18 (when (ltb (length first) (j * length cols))) ∷ check 19 (when (ltb (length second) (l * length cols))) ∷ [])))

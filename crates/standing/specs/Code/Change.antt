@@ -13,7 +13,7 @@ use Rattle.tables.specs.declared.Changed.{Changed}
 use Rattle.tables.specs.Code.Change.{insertion, deletion}
 use Rattle.query.specs.declared.Query.{Query}
 use Rattle.query.specs.declared.Reading.{Reading}
-use Rattle.query.specs.Reading.{formula, read-of}
+use Rattle.query.specs.Reading.{constants-of, nodes-of, formula, read-reply}
 use Rattle.answer.specs.Reply.{result-of}
 use Rattle.standing.specs.declared.View.{View}
 use Rattle.standing.specs.declared.Current.{Current}
@@ -22,7 +22,7 @@ use Rattle.standing.specs.View.{stored, kept, mark, suits}
 use Rattle.standing.specs.Checks.{Kind, put, removal, is-over}
 use Rattle.standing.specs.Change.{begin-checks, ready-checks, turn-checks, turn-reply}
 
--- Rows found anew: whether they are over 512, and else the rows and the mark.
+-- Rows found anew: whether they are over `max-rows`, and else the rows and the mark.
 abbrev pub current : Result → Current
 current found =
     cond
@@ -30,13 +30,13 @@ current found =
     (record { over = true; endless = false; rows = stored [] })
     (record { over = false; endless = mark found; rows = stored (kept found) })
 
--- The query as read, with the first of the causes 1 to 10.
+-- The query as read, or a refusal by the first of the causes 1 to 10.
 abbrev pub begun : Store → List ℕ → Reading
-begun s bs = record { answer = first-cause (begin-checks s bs); query = read-of (s .widths) bs .query; columns = read-of (s .widths) bs .columns }
+begun s bs = read-reply (first-cause (begin-checks s bs)) (constants-of bs) (nodes-of bs)
 
--- The query as read, with the first of the causes 1 to 10 and 12.
+-- The query as read, or a refusal by the first of the causes 1 to 10 and 12.
 abbrev pub readied : Store → View → List ℕ → Reading
-readied s v bs = record { answer = first-cause (ready-checks s v bs); query = read-of (s .widths) bs .query; columns = read-of (s .widths) bs .columns }
+readied s v bs = read-reply (first-cause (ready-checks s v bs)) (constants-of bs) (nodes-of bs)
 
 -- The list suits the columns of an accepted query.
 abbrev pub Suits : View → Query → Type 0
@@ -48,7 +48,7 @@ altered put s r = insertion s r
 altered removal s r = deletion s r
 
 -- The reply to a change that came to the store t.
-abbrev pub settled : Store → Store → View → Query → List ℕ → List ℕ → Change × (List ℕ × List ℕ)
-settled s t v q first second =
+abbrev pub maintained : Store → Store → View → Query → List ℕ → List ℕ → Change × (List ℕ × List ℕ)
+maintained s t v q first second =
     let found : Result = result-of t q in
     turn-reply (first-cause (turn-checks v (columns (formula q)) found (length first) (length second))) s t v (columns (formula q)) found first second

@@ -5,16 +5,16 @@ use lib.ListN.{length, getD}
 use lib.Dec.{T}
 use Rattle.calculus.specs.Order.{Ascending}
 use Rattle.calculus.specs.Rows.{Row, row-below}
-use Rattle.standing.specs.declared.Line.{Line}
+use Rattle.standing.specs.declared.Quad.{Quad}
 use Rattle.standing.specs.declared.Rows.{Rows}
-use Rattle.standing.specs.View.{max-rows, lines-held}
+use Rattle.standing.specs.View.{max-rows, held-rows}
 
--- At most 512 rows, strictly ascending in their places.
+-- At most `max-rows` rows, strictly ascending in their places.
 abbrev pub InOrder : Rows → Type 0
-InOrder r = (r .count ≤ max-rows) × Ascending row-below (lines-held r)
+InOrder r = (r .count ≤ max-rows) × Ascending row-below (held-rows r)
 
 -- The four values of a row that was read.
-abbrev pub values-of : Line → Row
+abbrev pub values-of : Quad → Row
 values-of x = x .first ∷ x .second ∷ x .third ∷ x .fourth ∷ []
 
 -- Every row before place j is below x.

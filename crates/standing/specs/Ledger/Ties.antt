@@ -21,6 +21,7 @@ use Rattle.tables.specs.declared.Record.{Record}
 use Rattle.tables.specs.Records.{values-of, record-below, same-record, width, fits}
 use Rattle.tables.specs.Records.Laws.{record-order}
 use Rattle.tables.specs.Change.Laws.{reflects-held, in-without, from-without}
+use Rattle.standing.specs.View.{max-rows}
 use Rattle.standing.specs.Checks.{Kind, put, removal, record-checks, records-after, is-over, is-past, report-checks}
 use Rattle.standing.specs.Ledger.{Ledger, Call, Unfit, Past, Over, cause, no-cause, RecordCause, ReportCause, Among, Difference}
 
@@ -78,7 +79,7 @@ reflects-past n = reflects-map (λ h. omega (arith, h)) (λ h. omega (arith, h))
 
 pub reflects-over : (n : Ledger) → Reflects (Over n) (is-over (length (n .rows)) || any-of is-past (n .opening ∷ n .joined ∷ n .left ∷ []))
 reflects-over n =
-    reflects-or (reflects-ltb 512 (length (n .rows)))
+    reflects-or (reflects-ltb max-rows (length (n .rows)))
     (reflects-or (reflects-past (n .opening))
     (reflects-or (reflects-past (n .joined)) (subst⁻¹ (Reflects (Past (n .left))) (or-false (is-past (n .left))) (reflects-past (n .left)))))
 

@@ -22,7 +22,7 @@ use Rattle.query.specs.Reading.{formula, columns-of, read-checks}
 use Rattle.answer.specs.Code.Listing.Rows.{numbers-width}
 use Rattle.answer.specs.Reply.{result-of, query-read}
 use Rattle.standing.specs.declared.View.{View}
-use Rattle.standing.specs.View.{rows-in, kept, mark, view-of, suits, QueryColumns}
+use Rattle.standing.specs.View.{max-rows, rows-in, kept, mark, view-of, suits, QueryColumns}
 use Rattle.standing.specs.View.Difference.{only-in-width}
 use Rattle.standing.specs.View.Layout.{query-columns, rows-of-view, view-suits}
 use Rattle.standing.specs.Checks.{record-checks, records-after, is-over, is-past, report-checks, view-checks}
@@ -59,12 +59,12 @@ module _ (bs : List ℕ) (q : Query) where
   abbrev pub list-of : Store → ℕ → ℕ → ℕ → View
   list-of s opening joined left = view-of (columns (formula q)) (result-of s q) opening joined left
 
-  -- The store meets neither 1 nor 2, the bytes are read as the query over it, its rows are at most 512, and the counts add up.
+  -- The store meets neither 1 nor 2, the bytes are read as the query over it, its rows are at most `max-rows`, and the counts add up.
   pub record State (s : Store) (opening joined left : ℕ) : Type 0 where
     pub judged : judgement s ≡ Done
     pub read : first-cause (read-checks (s .widths) bs) ≡ Done
     pub query-is : query-read s bs ≡ q
-    pub few : length (kept (result-of s q)) ≤ 512
+    pub few : length (kept (result-of s q)) ≤ max-rows
     pub balanced : Balanced (ledger-of s opening joined left)
 
   -- A ledger, and the store and the list that stand for it.
@@ -231,7 +231,7 @@ module _ (bs : List ℕ) (q : Query) where
                 judged = after-judged s (c .tuple) (state .judged) (c .kind) done;
                 read = state .read;
                 query-is = state .query-is;
-                few = ltb-false 512 (length (kept found)) (room .0);
+                few = ltb-false max-rows (length (kept found)) (room .0);
                 balanced = subst Balanced next-is next-balanced;
               }
 
@@ -337,7 +337,7 @@ module _ (bs : List ℕ) (s : Store) (v : View) (opened : opened-of s bs ≡ rec
               judged = begun-judged s bs begun;
               read = later-done (store-checks s) (read-checks (s .widths) bs) begun;
               query-is = refl;
-              few = ltb-false 512 (length (kept answered)) (first-clear 17 (is-over (length (kept answered))) [] (later-done (begin-checks s bs) (over-checks answered) (accepted .0)) .0);
+              few = ltb-false max-rows (length (kept answered)) (first-clear 17 (is-over (length (kept answered))) [] (later-done (begin-checks s bs) (over-checks answered) (accepted .0)) .0);
               balanced = opens-balanced asked s (opening-ledger asked s) (opening-opens asked s);
             };
         ledger-is = refl;

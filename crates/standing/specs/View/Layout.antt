@@ -25,8 +25,8 @@ use Rattle.query.specs.Reading.{formula, columns-of, variables-in}
 use Rattle.verdict.specs.Verdict.Laws.{column-small}
 use Rattle.standing.specs.declared.Rows.{Rows}
 use Rattle.standing.specs.declared.View.{View}
-use Rattle.standing.specs.View.{line-at, lines, lines-held, lines-unused, ends, stored, columns-in, rows-in, columns-fit, rows-fit, counts-fit, view-fits, suits, kept, mark, view-of, QueryColumns}
-use Rattle.standing.specs.View.Laws.{length-lines, getD-lines, width-first, width-rows, lines-stored, unused-stored, rows-stored}
+use Rattle.standing.specs.View.{max-rows, row-at, row-places, held-rows, unused-places, ends, stored, columns-in, rows-in, columns-fit, rows-fit, counts-fit, view-fits, suits, kept, mark, view-of, QueryColumns}
+use Rattle.standing.specs.View.Laws.{length-row-places, getD-row-places, width-first, width-rows, held-rows-stored, unused-stored, rows-stored}
 use Rattle.standing.specs.View.Difference.{padded-ascends}
 
 -- ---- zeros past the values
@@ -40,35 +40,35 @@ all-copies p z e (suc n) = λ i. e i && all-copies p z e n i
 pub ends-padded : (n : ℕ) (xs : List ℕ) → ends (length xs) (padded n 0 xs) ≡ true
 ends-padded n xs = ap (all-of (eqb 0)) (drop-append-seam xs (replicate (n - length xs) 0)) ∙ all-copies (eqb 0) 0 refl (n - length xs)
 
--- A line that is zero from place k on is its first k values, filled up.
+-- A list that is zero from place k on is its first k values, filled up.
 pub padded-taken : (n k : ℕ) (xs : List ℕ) → length xs ≡ n → k ≤ n → T (ends k xs) → xs ≡ padded n 0 (take k xs)
 padded-taken n k xs e h t =
     let l : length (drop k xs) ≡ n - length (take k xs) = omega (arith, length-drop k xs, length-take-le k xs (omega arith)) in
     sym (take-append-drop k xs)
     ∙ ap (λ zs. take k xs ++ zs) (reflected (reflects-replicate (eqb 0) 0 (λ x. reflects-map sym sym (reflects-eqb 0 x)) (drop k xs)) t ∙ ap (λ m. replicate m 0) l)
 
--- ---- the lines of a list
+-- ---- the row places of a list
 
 -- The first n of them.
-module _ (vs : List ℕ) (n : ℕ) (h : n ≤ 512) where
-  pub length-first : length (take n (lines vs)) ≡ n
-  length-first = length-take-le n (lines vs) (omega (arith, length-lines vs))
+module _ (vs : List ℕ) (n : ℕ) (h : n ≤ max-rows) where
+  pub length-first : length (take n (row-places vs)) ≡ n
+  length-first = length-take-le n (row-places vs) (omega (arith, length-row-places vs))
 
-  pub getD-first : (i : ℕ) → i < n → getD (take n (lines vs)) i [] ≡ line-at vs i
-  getD-first i l = getD-take n (lines vs) i [] l ∙ getD-lines vs i (omega arith)
+  pub getD-first : (i : ℕ) → i < n → getD (take n (row-places vs)) i [] ≡ row-at vs i
+  getD-first i l = getD-take n (row-places vs) i [] l ∙ getD-row-places vs i (omega arith)
 
 module _ (r : Rows) (k : ℕ) (few : k ≤ 4) where
-  -- Lines that are zero past their first k values are these, filled up.
-  lines-padded : T (all-of (ends k) (lines-held r)) → lines-held r ≡ map (padded 4 0) (map (take k) (lines-held r))
-  lines-padded t = go (lines-held r) (width-first (r .count) (r .values)) t
+  -- Rows held that are zero past their first k values are these, filled up.
+  held-rows-padded : T (all-of (ends k) (held-rows r)) → held-rows r ≡ map (padded 4 0) (map (take k) (held-rows r))
+  held-rows-padded t = go (held-rows r) (width-first (r .count) (r .values)) t
     where
       go : (ls : List Row) → Width 4 ls → T (all-of (ends k) ls) → ls ≡ map (padded 4 0) (map (take k) ls)
       go [] w s = refl
       go (l ∷ ls) w s = let p = and-holds (ends k l) (all-of (ends k) ls) s in λ i. padded-taken 4 k l (w l (here refl)) few (p .0) i ∷ go ls (λ u j. w u (there j)) (p .1) i
 
-  -- Lines that are zero past their first k values are in order where these values are.
-  ascend-alike : T (all-of (ends k) (lines-held r)) → is-ascending row-below (lines-held r) ≡ is-ascending row-below (map (take k) (lines-held r))
-  ascend-alike t = ap (is-ascending row-below) (lines-padded t) ∙ padded-ascends k (map (take k) (lines-held r)) (width-rows k (r .count) (r .values) few)
+  -- Rows held that are zero past their first k values are in order where these values are.
+  ascend-alike : T (all-of (ends k) (held-rows r)) → is-ascending row-below (held-rows r) ≡ is-ascending row-below (map (take k) (held-rows r))
+  ascend-alike t = ap (is-ascending row-below) (held-rows-padded t) ∙ padded-ascends k (map (take k) (held-rows r)) (width-rows k (r .count) (r .values) few)
 
 -- Rows of k values filled up are zero past them.
 rows-ended : (k : ℕ) (rows : List Row) → Width k rows → all-of (ends k) (map (padded 4 0) rows) ≡ true
@@ -82,11 +82,11 @@ rows-ended k (r ∷ rows) w =
 -- What the layout says of a list with these columns.
 pub record Layout (v : View) (cols : List ℕ) : Type 0 where
   pub columns-are : v .columns ≡ columns-of cols
-  pub few-rows : v .rows .count ≤ 512
+  pub few-rows : v .rows .count ≤ max-rows
   pub count-is : length (rows-in v) ≡ v .rows .count
   pub wide : Width (length cols) (rows-in v)
   pub ascending : Ascending row-below (rows-in v)
-  pub lines-are : lines-held (v .rows) ≡ map (padded 4 0) (rows-in v)
+  pub held-rows-are : held-rows (v .rows) ≡ map (padded 4 0) (rows-in v)
   pub unmarked : v .endless ≡ true → v .rows .count ≡ 0
   pub balanced : v .opening + v .joined ≡ v .left + v .rows .count
 
@@ -103,19 +103,19 @@ suited v cols e t =
     let fits = and-holds (columns-fit v && rows-fit v) (counts-fit v) (all .0) in
     let both = and-holds (columns-fit v) (rows-fit v) (fits .0) in
     let columns-parts = reflected (reflects-and (reflects-and (reflects-and (reflects-leb k 4) (reflects-T (all-of (λ c. ltb c 16) (columns-in v)))) (reflects-T (is-ascending ltb (columns-in v)))) (reflects-T (ends k (v .columns .variables)))) (both .0) in
-    let rows-parts = reflected (reflects-and (reflects-and (reflects-and (reflects-leb (v .rows .count) 512) (reflects-ascending row-below row-order (rows-in v))) (reflects-T (all-of (ends k) (lines-held (v .rows))))) (reflects-T (all-of (ends 0) (lines-unused (v .rows))))) (both .1) in
+    let rows-parts = reflected (reflects-and (reflects-and (reflects-and (reflects-leb (v .rows .count) max-rows) (reflects-ascending row-below row-order (rows-in v))) (reflects-T (all-of (ends k) (held-rows (v .rows))))) (reflects-T (all-of (ends 0) (unused-places (v .rows))))) (both .1) in
     let counts-parts = reflected (reflects-and (reflects-T (not (v .endless && ltb 0 (v .rows .count)))) (reflects-eqb (v .opening + v .joined) (v .left + v .rows .count))) (fits .1) in
     let few : k ≤ 4 = columns-parts .0 .0 .0 in
-    let rows-few : v .rows .count ≤ 512 = rows-parts .0 .0 .0 in
+    let rows-few : v .rows .count ≤ max-rows = rows-parts .0 .0 .0 in
     let same : columns-in v ≡ cols = reflected (reflects-same-list (columns-in v) cols) (all .1) in
     let count-of : k ≡ length cols = sym (length-take-le k (v .columns .variables) (omega arith)) ∙ ap length same in
     record {
       columns-are = λ i. record { variables = (padded-taken 4 k (v .columns .variables) e few (columns-parts .1) ∙ ap (padded 4 0) same) i; count = count-of i };
       few-rows = rows-few;
-      count-is = length-map (lines-held (v .rows)) (take k) ∙ length-first (v .rows .values) (v .rows .count) rows-few;
+      count-is = length-map (held-rows (v .rows)) (take k) ∙ length-first (v .rows .values) (v .rows .count) rows-few;
       wide = subst (λ n. Width n (rows-in v)) count-of (width-rows k (v .rows .count) (v .rows .values) few);
       ascending = rows-parts .0 .0 .1;
-      lines-are = lines-padded (v .rows) k few (rows-parts .0 .1);
+      held-rows-are = held-rows-padded (v .rows) k few (rows-parts .0 .1);
       unmarked = no-rows (v .endless) (v .rows .count) (counts-parts .0);
       balanced = counts-parts .1;
     }
@@ -178,35 +178,35 @@ module _ (v : View) (c : Columns) (q : QueryColumns c) where
         e
         (rw (columns-right v (subst⁻¹ QueryColumns e q), reflects-true (reflects-same-list (columns-in v) (columns-in v)) refl) (and-true (rows-fit v && counts-fit v)))
 
-    -- Not with over 512 rows.
-    pub suits-many : 512 < v .rows .count → false ≡ suits v (variables-in c)
-    suits-many h = sym (suits-rows ∙ rw (lt-leb (v .rows .count) 512 h))
+    -- Not with over `max-rows` rows.
+    pub suits-many : max-rows < v .rows .count → false ≡ suits v (variables-in c)
+    suits-many h = sym (suits-rows ∙ rw (lt-leb (v .rows .count) max-rows h))
 
-    module _ (h : v .rows .count ≤ 512) where
-      -- Of a list with the query's columns and at most 512 rows, these tests are left, in this order.
-      suits-tests : suits v (variables-in c) ≡ (all-of (ends (c .count)) (lines-held (v .rows)) && is-ascending row-below (lines-held (v .rows)) && all-of (ends 0) (lines-unused (v .rows)) && not (v .endless && ltb 0 (v .rows .count)) && eqb (v .opening + v .joined) (v .left + v .rows .count))
+    module _ (h : v .rows .count ≤ max-rows) where
+      -- Of a list with the query's columns and at most `max-rows` rows, these tests are left, in this order.
+      suits-tests : suits v (variables-in c) ≡ (all-of (ends (c .count)) (held-rows (v .rows)) && is-ascending row-below (held-rows (v .rows)) && all-of (ends 0) (unused-places (v .rows)) && not (v .endless && ltb 0 (v .rows .count)) && eqb (v .opening + v .joined) (v .left + v .rows .count))
       suits-tests =
           let k : ℕ = v .columns .count in
           let f : k ≤ 4 = omega (arith, ap (λ d. d .count) (e ∙ q .whole), q .few) in
           suits-rows
-          ∙ rw (le-leb (v .rows .count) 512 h, ← e)
-          (regroup (is-ascending row-below (rows-in v)) (is-ascending row-below (lines-held (v .rows))) (all-of (ends k) (lines-held (v .rows))) (all-of (ends 0) (lines-unused (v .rows))) (not (v .endless && ltb 0 (v .rows .count))) (eqb (v .opening + v .joined) (v .left + v .rows .count)) (ascend-alike (v .rows) k f))
+          ∙ rw (le-leb (v .rows .count) max-rows h, ← e)
+          (regroup (is-ascending row-below (rows-in v)) (is-ascending row-below (held-rows (v .rows))) (all-of (ends k) (held-rows (v .rows))) (all-of (ends 0) (unused-places (v .rows))) (not (v .endless && ltb 0 (v .rows .count))) (eqb (v .opening + v .joined) (v .left + v .rows .count)) (ascend-alike (v .rows) k f))
 
       -- A row that goes on past the columns.
-      pub suits-unended : all-of (ends (c .count)) (lines-held (v .rows)) ≡ false → false ≡ suits v (variables-in c)
+      pub suits-unended : all-of (ends (c .count)) (held-rows (v .rows)) ≡ false → false ≡ suits v (variables-in c)
       suits-unended f = sym (suits-tests ∙ rw f)
 
-      module _ (ended : all-of (ends (c .count)) (lines-held (v .rows)) ≡ true) where
+      module _ (ended : all-of (ends (c .count)) (held-rows (v .rows)) ≡ true) where
         -- Rows that are not ascending.
-        pub suits-unordered : is-ascending row-below (lines-held (v .rows)) ≡ false → false ≡ suits v (variables-in c)
+        pub suits-unordered : is-ascending row-below (held-rows (v .rows)) ≡ false → false ≡ suits v (variables-in c)
         suits-unordered f = sym (suits-tests ∙ rw (ended, f))
 
-        module _ (ordered : is-ascending row-below (lines-held (v .rows)) ≡ true) where
+        module _ (ordered : is-ascending row-below (held-rows (v .rows)) ≡ true) where
           -- A place past the rows that is not zero.
-          pub suits-full : all-of (ends 0) (lines-unused (v .rows)) ≡ false → false ≡ suits v (variables-in c)
+          pub suits-full : all-of (ends 0) (unused-places (v .rows)) ≡ false → false ≡ suits v (variables-in c)
           suits-full f = sym (suits-tests ∙ rw (ended, ordered, f))
 
-          module _ (rest : all-of (ends 0) (lines-unused (v .rows)) ≡ true) where
+          module _ (rest : all-of (ends 0) (unused-places (v .rows)) ≡ true) where
             -- An endless list with rows.
             pub suits-marked : (v .endless && ltb 0 (v .rows .count)) ≡ true → false ≡ suits v (variables-in c)
             suits-marked f = sym (suits-tests ∙ rw (ended, ordered, rest, f))
@@ -222,7 +222,7 @@ no-mark : (found : Result) → (mark found && ltb 0 (length (kept found))) ≡ f
 no-mark endless = refl
 no-mark (listed rows) = refl
 
-module _ (cols : List ℕ) (c : QueryColumns (columns-of cols)) (found : Result) (few : length (kept found) ≤ 512) (wide : Width (length cols) (kept found)) (a : Ascending row-below (kept found)) (o j l : ℕ) where
+module _ (cols : List ℕ) (c : QueryColumns (columns-of cols)) (found : Result) (few : length (kept found) ≤ max-rows) (wide : Width (length cols) (kept found)) (a : Ascending row-below (kept found)) (o j l : ℕ) where
   columns-few : length cols ≤ 4
   columns-few = subst (λ xs. length xs ≤ 4) (columns-read cols) (c .few)
 
@@ -233,7 +233,7 @@ module _ (cols : List ℕ) (c : QueryColumns (columns-of cols)) (found : Result)
   -- The list of a result is in the layout where its counts add up.
   pub view-suits : o + j ≡ l + length (kept found) → T (suits (view-of cols found o j l) cols)
   view-suits e =
-      let held : lines-held (stored (kept found)) ≡ map (padded 4 0) (kept found) = lines-stored (length cols) columns-few (kept found) few wide in
+      let held : held-rows (stored (kept found)) ≡ map (padded 4 0) (kept found) = held-rows-stored (length cols) columns-few (kept found) few wide in
       let judged : true ≡ suits (view-of cols found o j l) (variables-in (columns-of cols)) =
       suits-balanced
       (view-of cols found o j l)
@@ -243,7 +243,7 @@ module _ (cols : List ℕ) (c : QueryColumns (columns-of cols)) (found : Result)
       few
       (ap (all-of (ends (length cols))) held ∙ rows-ended (length cols) (kept found) wide)
       (ap (is-ascending row-below) held ∙ padded-ascends (length cols) (kept found) wide ∙ reflects-true (reflects-ascending row-below row-order (kept found)) a)
-      (ap (all-of (ends 0)) (unused-stored (length cols) columns-few (kept found) few wide) ∙ all-copies (ends 0) (0 ∷ 0 ∷ 0 ∷ 0 ∷ []) refl (512 - length (kept found)))
+      (ap (all-of (ends 0)) (unused-stored (length cols) columns-few (kept found) few wide) ∙ all-copies (ends 0) (0 ∷ 0 ∷ 0 ∷ 0 ∷ []) refl (max-rows - length (kept found)))
       (no-mark found)
       (sym (eq-eqb (o + j) (l + length (kept found)) e)) in
       subst (λ xs. T (suits (view-of cols found o j l) xs)) (columns-read cols) (subst T judged tt)

@@ -1,7 +1,7 @@
 -- How the code makes the form: what its parts ask for, and what a node does to the words so far. Definitions only; the laws are in Form/Laws.antt.
-use Prim.Native.Nat.{ℕ, _+_, _*_, _-_, _≤_, _<_}
+use Prim.Native.Nat.{ℕ, _-_, _≤_, _<_}
 use mathlib.Core.Path.{_≡_}
-use mathlib.Core.Bool.{false, cond}
+use mathlib.Core.Bool.{true, false, cond}
 use mathlib.Core.List.{List, [], _∷_, _++_}
 use lib.ListN.{length, getD, take}
 use lib.Dec.{eqb}
@@ -9,7 +9,7 @@ use Rattle.calculus.specs.Sets.{member}
 use Rattle.calculus.specs.Lists.{padded}
 use Rattle.calculus.specs.Formula.{fv}
 use Rattle.query.specs.declared.Query.{Query}
-use Rattle.query.specs.Nodes.{kind, variable, equal-term, children, malformed}
+use Rattle.query.specs.Nodes.{kind, variable, equal-term, children, malformed, truth-word, not-word, join-word, exists-word}
 use Rattle.query.specs.Decoding.{root}
 use Rattle.query.specs.Reading.{max-nodes}
 use Rattle.query.specs.Packing.{Ordered}
@@ -47,7 +47,7 @@ abbrev pub last : List ℕ → ℕ
 last xs = getD xs (length xs - 1) 0
 
 abbrev pub true-word : ℕ
-true-word = 268435456
+true-word = truth-word true
 
 -- An equality of a variable with itself is true.
 abbrev pub settled : ℕ → ℕ
@@ -58,7 +58,7 @@ abbrev pub negated : List ℕ → List ℕ
 negated xs =
     cond (eqb (last xs) 0) (take (length xs - 1) xs ++ (true-word ∷ []))
     (cond (eqb (last xs) true-word) (take (length xs - 1) xs ++ (0 ∷ []))
-    (xs ++ ((1610612736 + (length xs - 1) * 8388608) ∷ [])))
+    (xs ++ (not-word (length xs - 1) ∷ [])))
 
 -- The truth value that an and (kind 4) or an or (kind 5) drops.
 abbrev pub unit-word : ℕ → ℕ
@@ -69,8 +69,8 @@ abbrev pub joined : ℕ → ℕ → ℕ → List ℕ → List ℕ
 joined k at middle xs =
     cond (eqb (kind (last xs)) 0)
     (cond (eqb (last xs) (unit-word k)) (take middle xs) (take at xs ++ (last xs ∷ [])))
-    (xs ++ ((k * 536870912 + (middle - 1) * 8388608 + (length xs - 1) * 131072) ∷ []))
+    (xs ++ (join-word k (middle - 1) (length xs - 1) ∷ []))
 
 -- An exists is kept where its variable is free.
 abbrev pub quantified : ℕ → List ℕ → List ℕ
-quantified x xs = cond (member x (fv (root xs))) (xs ++ ((3221225472 + x * 33554432 + (length xs - 1) * 524288) ∷ [])) xs
+quantified x xs = cond (member x (fv (root xs))) (xs ++ (exists-word x (length xs - 1) ∷ [])) xs

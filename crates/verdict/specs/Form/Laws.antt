@@ -1,6 +1,6 @@
 -- Laws of the propagated form: what a node does to the words so far gives the words of its propagated formula; and the form of an accepted query is an
 -- accepted query of that formula, in packing's order.
-use Prim.Native.Nat.{ℕ, _+_, _*_, _-_, _%_, _≤_, _<_}
+use Prim.Native.Nat.{ℕ, _+_, _-_, _%_, _≤_, _<_}
 use native.Mathlib.Nat.{zero-add}
 use native.Mathlib.Omega.{arith}
 use mathlib.Core.Path.{_≡_, refl, sym, ap, subst, _∙_}
@@ -21,7 +21,8 @@ use Rattle.calculus.specs.Propagation.{exists-if-free, is-truth, cp-eq, cp-neg,
 use Rattle.calculus.specs.Propagation.Laws.{NegView, neg-truth, neg-other, neg-view, join, cp-join, JoinView, left-unit, left-zero, right-unit, right-zero, neither, join-view, ExistsView, kept, dropped, exists-view, fv-cp, size-cp}
 use Rattle.causes.specs.Causes.{widths-fit}
 use Rattle.query.specs.declared.Query.{Query}
-use Rattle.query.specs.Nodes.{kind, variable, equal-term, malformed, mismatched}
+use Rattle.query.specs.Nodes.{kind, variable, equal-term, malformed, mismatched, truth-rest, equality-rest, equality-word, not-word, join-word, exists-word}
+use Rattle.query.specs.Nodes.Words.{truth-of-fields}
 use Rattle.query.specs.Decoding.{term-of, node-formula, formula-in, formulas, formula-at, root}
 use Rattle.query.specs.Decoding.Laws.{Kind, is-truth as truth-kind, is-record, is-equality, is-not, is-and, is-or, is-exists, is-none, kind-of, formula-here}
 use Rattle.query.specs.Reading.{max-nodes, max-constants, read-of, pool, formula}
@@ -30,7 +31,7 @@ use Rattle.query.specs.Packing.Trees.{Tree, tree-decodes, tree-sound}
 use Rattle.query.specs.Packing.Laws.{size-positive, length-words, words-tree, root-words, read-pack}
 use Rattle.query.specs.Accepted.{Accepted}
 use Rattle.query.specs.Accepted.Laws.{pool-of, nodes-of-query, node-at, packed-accepted, formula-last, nodes-length-is}
-use Rattle.query.specs.Accepted.Order.{nonzero-false, truth-again, record-again, equality-again, record-width}
+use Rattle.query.specs.Accepted.Order.{nonzero-false, record-again, equality-again, record-width}
 use Rattle.verdict.specs.Form.{form-of}
 use Rattle.verdict.specs.Code.Form.{IsForm, last, true-word, settled, negated, joined, quantified}
 
@@ -56,10 +57,10 @@ negated-truth : (b : Bool) (xs : List ℕ) → negated (xs ++ (cond b true-word 
 negated-truth true xs = rw (last-snoc xs true-word, take-snoc xs true-word)
 negated-truth false xs = rw (last-snoc xs 0, take-snoc xs 0)
 
-negated-other : (ys : List ℕ) → eqb (kind (last ys)) 0 ≡ false → negated ys ≡ ys ++ ((1610612736 + (length ys - 1) * 8388608) ∷ [])
+negated-other : (ys : List ℕ) → eqb (kind (last ys)) 0 ≡ false → negated ys ≡ ys ++ (not-word (length ys - 1) ∷ [])
 negated-other ys e =
     let n = eqb-false (kind (last ys)) 0 e in
-    rw (ne-eqb (last ys) 0 (λ z. omega arith), ne-eqb (last ys) true-word (λ z. omega arith))
+    rw (ne-eqb (last ys) 0 (λ z. n (ap kind z)), ne-eqb (last ys) true-word (λ z. n (ap kind z)))
 
 joined-unit : (u : Bool) (at middle : ℕ) (ys : List ℕ) → length ys ≡ middle → joined (join-kind u) at middle (ys ++ (cond u true-word 0 ∷ [])) ≡ ys
 joined-unit true at middle ys e = rw (last-snoc ys true-word, take-at ys (true-word ∷ []) middle e)
@@ -70,10 +71,10 @@ joined-zero : (u : Bool) (at middle : ℕ) (xs ys : List ℕ) → length xs ≡ 
 joined-zero true at middle xs ys e = rw (last-snoc (xs ++ ys) 0, append-assoc, take-at xs (ys ++ (0 ∷ [])) at e)
 joined-zero false at middle xs ys e = rw (last-snoc (xs ++ ys) true-word, append-assoc, take-at xs (ys ++ (true-word ∷ [])) at e)
 
-joined-other : (k at middle : ℕ) (ys : List ℕ) → eqb (kind (last ys)) 0 ≡ false → joined k at middle ys ≡ ys ++ ((k * 536870912 + (middle - 1) * 8388608 + (length ys - 1) * 131072) ∷ [])
+joined-other : (k at middle : ℕ) (ys : List ℕ) → eqb (kind (last ys)) 0 ≡ false → joined k at middle ys ≡ ys ++ (join-word k (middle - 1) (length ys - 1) ∷ [])
 joined-other k at middle ys e = rw e
 
-words-join : (u : Bool) (φ ψ : Fmla) (n : ℕ) → words (join u φ ψ) n ≡ words φ n ++ (words ψ (n + size φ) ++ ((join-kind u * 536870912 + (n + size φ - 1) * 8388608 + (n + size φ + size ψ - 1) * 131072) ∷ []))
+words-join : (u : Bool) (φ ψ : Fmla) (n : ℕ) → words (join u φ ψ) n ≡ words φ n ++ (words ψ (n + size φ) ++ (join-word (join-kind u) (n + size φ - 1) (n + size φ + size ψ - 1) ∷ []))
 words-join true φ ψ n = refl
 words-join false φ ψ n = refl
 
@@ -92,14 +93,14 @@ kind-truth w child f = go (kind-of w)
     go (is-none j e) = absurd (true≢false (rw e at f))
 
 -- The word of an equality of the variable x with the term t.
-equality-word : (w x t n : ℕ) → x < 16 → w ≡ 2 * 536870912 + x * 33554432 + term-code (term-of t) * 1048576 → words (cp-eq x (term-of t)) n ≡ cond (eqb x t) true-word w ∷ []
-equality-word w x t n h = go (reflects-leb 16 t)
+equality-settled : (w x t n : ℕ) → x < 16 → w ≡ equality-word x (term-code (term-of t)) → words (cp-eq x (term-of t)) n ≡ cond (eqb x t) true-word w ∷ []
+equality-settled w x t n h = go (reflects-leb 16 t)
   where
-    kept-or-true : (b : Bool) → w ≡ 2 * 536870912 + x * 33554432 + t * 1048576 → words (cond b (truth true) (eq x (var t))) n ≡ cond b true-word w ∷ []
+    kept-or-true : (b : Bool) → w ≡ equality-word x t → words (cond b (truth true) (eq x (var t))) n ≡ cond b true-word w ∷ []
     kept-or-true true e = refl
     kept-or-true false e = ap (λ u. u ∷ []) (sym e)
 
-    go : {b : Bool} → Reflects (16 ≤ t) b → w ≡ 2 * 536870912 + x * 33554432 + term-code (cond b (con (t % 16)) (var (t % 16))) * 1048576
+    go : {b : Bool} → Reflects (16 ≤ t) b → w ≡ equality-word x (term-code (cond b (con (t % 16)) (var (t % 16))))
         → words (cp-eq x (cond b (con (t % 16)) (var (t % 16)))) n ≡ cond (eqb x t) true-word w ∷ []
     go (holds l) e = rw (ne-eqb x t (λ d. omega arith)) (ap (λ u. u ∷ []) (sym e))
     go (fails l) e = let d : t % 16 ≡ t = omega arith in rw d (kept-or-true (eqb x t) (rw d at e))
@@ -155,8 +156,8 @@ module _ (ws : List ℕ) (k : ℕ) (fit : T (widths-fit ws)) (few : k ≤ max-co
   pub quantified-words : (x : ℕ) (xs : List ℕ) (φ : Fmla) → Fits ws k φ → length xs + size φ ≤ max-nodes → quantified x (xs ++ words φ (length xs)) ≡ xs ++ words (exists-if-free x φ) (length xs)
   quantified-words x xs φ f h = rw (root-after xs φ f h, end-after xs φ) (go (member x (fv φ)))
     where
-      go : (b : Bool) → cond b ((xs ++ words φ (length xs)) ++ ((3221225472 + x * 33554432 + (length xs + size φ - 1) * 524288) ∷ [])) (xs ++ words φ (length xs)) ≡ xs ++ words (cond b (exists x φ) φ) (length xs)
-      go true = append-assoc xs (words φ (length xs)) ((3221225472 + x * 33554432 + (length xs + size φ - 1) * 524288) ∷ [])
+      go : (b : Bool) → cond b ((xs ++ words φ (length xs)) ++ (exists-word x (length xs + size φ - 1) ∷ [])) (xs ++ words φ (length xs)) ≡ xs ++ words (cond b (exists x φ) φ) (length xs)
+      go true = append-assoc xs (words φ (length xs)) (exists-word x (length xs + size φ - 1) ∷ [])
       go false = refl
 
   -- ---- the word of a leaf
@@ -165,7 +166,7 @@ module _ (ws : List ℕ) (k : ℕ) (fit : T (widths-fit ws)) (few : k ≤ max-co
   leaf-words w child n f m h = go (kind-of w)
     where
       go : Kind w → words (cp (node-formula w child)) n ≡ w ∷ []
-      go (truth-kind e) = rw e (ap (λ u. u ∷ []) (sym (truth-again w e (nonzero-false (w % 268435456) (rw e at f)))))
+      go (truth-kind e) = rw e (ap (λ u. u ∷ []) (sym (truth-of-fields w e (nonzero-false (truth-rest w) (rw e at f)))))
       go (is-record e) = rw e (ap (λ u. u ∷ []) (sym (record-again w e (record-width ws w fit m e) (rw e at f))))
       go (is-equality e) = absurd (omega arith)
       go (is-not e) = absurd (omega arith)
@@ -175,7 +176,7 @@ module _ (ws : List ℕ) (k : ℕ) (fit : T (widths-fit ws)) (few : k ≤ max-co
       go (is-none j e) = absurd (omega arith)
 
   pub equality-words : (w : ℕ) (child : ℕ → Fmla) (n : ℕ) → malformed w ≡ false → kind w ≡ 2 → words (cp (node-formula w child)) n ≡ settled w ∷ []
-  equality-words w child n f e = rw e (equality-word w (variable w) (equal-term w) n (omega arith) (equality-again w e (nonzero-false (w % 1048576) (rw e at f))))
+  equality-words w child n f e = rw e (equality-settled w (variable w) (equal-term w) n (omega arith) (equality-again w e (nonzero-false (equality-rest w) (rw e at f))))
 
   -- ---- what propagation makes can be packed
 

@@ -9,7 +9,7 @@ use lib.ListN.{length, set, length-set}
 use lib.Seq.{length-take-le}
 use Rattle.calculus.specs.Sets.{union-of}
 use Rattle.query.specs.declared.Query.{Query}
-use Rattle.query.specs.Reading.{pool, nodes-in}
+use Rattle.query.specs.Reading.{max-nodes, pool, nodes-in}
 use Rattle.query.specs.Packing.{word-bytes, header-bytes}
 use Rattle.answer.specs.Code.Listing.{overlay}
 use Rattle.answer.specs.Code.Listing.Laws.{length-overlay}
@@ -37,7 +37,7 @@ all-parts q hn hk =
 
 -- ---- what is known at a place
 
-nodes-long : (c : tie.Start) → length (c .args .q .nodes) ≡ 64
+nodes-long : (c : tie.Start) → length (c .args .q .nodes) ≡ max-nodes
 nodes-long c = search needs
 
 constants-long : (c : tie.Start) → length (c .args .q .constants) ≡ 16

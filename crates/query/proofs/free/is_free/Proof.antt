@@ -6,17 +6,18 @@ use mathlib.Core.Path.{_≡_, refl, subst}
 use denote.Ref.{now}
 use lib.ListN.{length, length-set}
 use Rattle.query.specs.Code.Free.Laws.{Marks, marks-none, marks-more, marks-root}
+use Rattle.query.specs.Reading.{max-nodes}
 use Rattle.query.proofs.free.is_free.Statement.{statement}
 use Rattle.query.proofs.free.is_free.Tie as tie
 
 abbrev Inv-loop : tie.InvT-loop
-Inv-loop nodes n x all free₀ i₀ free i = (i ≤ n) × (length nodes ≡ 64) × (length free ≡ 64) × Marks x nodes i free
+Inv-loop nodes n x all free₀ i₀ free i = (i ≤ n) × (length nodes ≡ max-nodes) × (length free ≡ max-nodes) × Marks x nodes i free
 
 abbrev μ-loop : tie.MeasureT-loop
 μ-loop nodes n x all free₀ i₀ free i = n - i
 
 loop-holds : tie.Need-loop-holds Inv-loop μ-loop
-loop-holds c = (omega arith, search needs, refl, marks-none (c .before .args .x) (now (c .before .args .nodes)) 64)
+loop-holds c = (omega arith, search needs, refl, marks-none (c .before .args .x) (now (c .before .args .nodes)) max-nodes)
 
 mul-free-in-node : tie.Need-mul-free-in-node Inv-loop μ-loop
 mul-free-in-node c = search needs

@@ -10,23 +10,24 @@ use Rattle.calculus.specs.Lists.Laws.{getD-tabulate}
 use Rattle.query.specs.Nodes.{uses}
 use Rattle.query.specs.Code.Judging.{counted-with}
 use Rattle.query.specs.Nodes.Laws.{uses-fit, counted-next}
+use Rattle.query.specs.Reading.{max-nodes}
 use Rattle.query.proofs.judge.count_uses.Statement.{statement}
 use Rattle.query.proofs.judge.count_uses.Tie as tie
 
 abbrev Inv-loop : tie.InvT-loop
-Inv-loop nodes n all counts₀ i₀ counts i = (i ≤ n) × (counts ≡ tabulate (uses (take i nodes)) 64)
+Inv-loop nodes n all counts₀ i₀ counts i = (i ≤ n) × (counts ≡ tabulate (uses (take i nodes)) max-nodes)
 
 abbrev μ-loop : tie.MeasureT-loop
 μ-loop nodes n all counts₀ i₀ counts i = n - i
 
-fit : (ns counts : List ℕ) (i : ℕ) → i < 64 → length ns ≡ 64 → counts ≡ tabulate (uses (take i ns)) 64 → (c : ℕ) → c < 64 → getD counts c 0 < 254
-fit ns counts i h l e c m = subst⁻¹ (λ (cs : List ℕ). getD cs c 0 < 254) e (subst⁻¹ (λ (k : ℕ). k < 254) (getD-tabulate (uses (take i ns)) 64 c 0 m) (uses-fit ns i c (omega arith) h))
+fit : (ns counts : List ℕ) (i : ℕ) → i < max-nodes → length ns ≡ max-nodes → counts ≡ tabulate (uses (take i ns)) max-nodes → (c : ℕ) → c < max-nodes → getD counts c 0 < 254
+fit ns counts i h l e c m = subst⁻¹ (λ (cs : List ℕ). getD cs c 0 < 254) e (subst⁻¹ (λ (k : ℕ). k < 254) (getD-tabulate (uses (take i ns)) max-nodes c 0 m) (uses-fit ns i c (omega arith) h))
 
-next : (ns counts after : List ℕ) (i : ℕ) → i < 64 → length ns ≡ 64 → counts ≡ tabulate (uses (take i ns)) 64 → after ≡ counted-with counts (getD ns i 0) → after ≡ tabulate (uses (take (i + 1) ns)) 64
+next : (ns counts after : List ℕ) (i : ℕ) → i < max-nodes → length ns ≡ max-nodes → counts ≡ tabulate (uses (take i ns)) max-nodes → after ≡ counted-with counts (getD ns i 0) → after ≡ tabulate (uses (take (i + 1) ns)) max-nodes
 next ns counts after i h l e f = f ∙ ap (λ (cs : List ℕ). counted-with cs (getD ns i 0)) e ∙ counted-next ns i (omega arith)
 
-last : (ns counts : List ℕ) (i n : ℕ) → i ≡ n → counts ≡ tabulate (uses (take i ns)) 64 → counts ≡ tabulate (uses (take n ns)) 64
-last ns counts i n e f = f ∙ ap (λ (k : ℕ). tabulate (uses (take k ns)) 64) e
+last : (ns counts : List ℕ) (i n : ℕ) → i ≡ n → counts ≡ tabulate (uses (take i ns)) max-nodes → counts ≡ tabulate (uses (take n ns)) max-nodes
+last ns counts i n e f = f ∙ ap (λ (k : ℕ). tabulate (uses (take k ns)) max-nodes) e
 
 loop-holds : tie.Need-loop-holds Inv-loop μ-loop
 loop-holds c = (omega arith, refl)
@@ -40,7 +41,7 @@ shared-slice-read-count c = search needs
 count-requires : tie.Need-count-requires Inv-loop μ-loop
 count-requires c κs =
     let l = c .before .before .before .loop in let ns = c .before .before .before .before .before .args .nodes .now in
-    let e : length ns ≡ 64 = search needs in
+    let e : length ns ≡ max-nodes = search needs in
     fit ns (l .counts) (l .i) (omega arith) e (l .inv .1)
 
 add-i : tie.Need-add-i Inv-loop μ-loop
@@ -52,7 +53,7 @@ loop-less c = search needs
 loop-again : tie.Need-loop-again Inv-loop μ-loop
 loop-again c =
     let l = c .before .before .before .before .loop in let ns = c .before .before .before .before .before .before .args .nodes .now in
-    let e : length ns ≡ 64 = search needs in
+    let e : length ns ≡ max-nodes = search needs in
     (omega arith, next ns (l .counts) (c .count .last .0) (l .i) (omega arith) e (l .inv .1) (c .count .ensures))
 
 returns : tie.Need-returns Inv-loop μ-loop

@@ -14,6 +14,7 @@ use Rattle.calculus.specs.Sets.{any-of}
 use Rattle.calculus.specs.Lists.{tabulate}
 use Rattle.calculus.specs.Lists.Laws.{getD-tabulate}
 use Rattle.query.specs.Nodes.{children, uses, malformed, misplaced, strays, mismatched}
+use Rattle.query.specs.Reading.{max-nodes}
 use Rattle.query.proofs.judge.has_fault.Statement.{statement}
 use Rattle.query.proofs.judge.has_fault.Tie as tie
 
@@ -25,8 +26,8 @@ module _ (ns : List ℕ) (n i : ℕ) (h : i < n) (l : n ≤ length ns) where
   last : (b : Bool) → b ≡ any-of (leb i) (children (getD ns i 0)) → b ≡ false → i + 1 ≡ n → false ≡ misplaced (take n ns) i
   last b e t m = rw (getD-take n ns i 0 h, sym e ∙ t, length-take-le n ns l, eq-eqb (i + 1) n m)
 
-  other : (b : Bool) → b ≡ any-of (leb i) (children (getD ns i 0)) → b ≡ false → i + 1 ≢ n → (counts : List ℕ) → counts ≡ tabulate (uses (take n ns)) 64 → n ≤ 64 → not (eqb (getD counts i 0) 1) ≡ misplaced (take n ns) i
-  other b e t m counts f k = rw (getD-take n ns i 0 h, sym e ∙ t, length-take-le n ns l, ne-eqb (i + 1) n m) (ap (λ (u : ℕ). not (eqb u 1)) (ap (λ (cs : List ℕ). getD cs i 0) f ∙ getD-tabulate (uses (take n ns)) 64 i 0 (omega arith)))
+  other : (b : Bool) → b ≡ any-of (leb i) (children (getD ns i 0)) → b ≡ false → i + 1 ≢ n → (counts : List ℕ) → counts ≡ tabulate (uses (take n ns)) max-nodes → n ≤ max-nodes → not (eqb (getD counts i 0) 1) ≡ misplaced (take n ns) i
+  other b e t m counts f k = rw (getD-take n ns i 0 h, sym e ∙ t, length-take-le n ns l, ne-eqb (i + 1) n m) (ap (λ (u : ℕ). not (eqb u 1)) (ap (λ (cs : List ℕ). getD cs i 0) f ∙ getD-tabulate (uses (take n ns)) max-nodes i 0 (omega arith)))
 
 past-nine : (cause : ℕ) (a b c d : Bool) → 6 ≤ cause → cause ≢ 6 → cause ≢ 7 → cause ≢ 8 → cause ≢ 9 → false ≡ getD (a ∷ b ∷ c ∷ d ∷ []) (cause - 6) false
 past-nine cause a b c d h n₆ n₇ n₈ n₉ = sym (List·getD-eq-default (a ∷ b ∷ c ∷ d ∷ []) false {n = cause - 6} (omega arith))
@@ -49,7 +50,7 @@ reaches-requires c κs = search needs
 returns : tie.Need-returns
 returns c =
     let x = c .before .before .before .before .before .args in let ns = x .nodes .now in
-    let e : length ns ≡ 64 = search needs in
+    let e : length ns ≡ max-nodes = search needs in
     rw (c .before .before .match .keys2) (reaching ns (x .n) (x .i) (omega arith) (omega arith) (c .before .reaches .result) (c .before .reaches .ensures) (c .if1 .taken))
 
 add-if2 : tie.Need-add-if2
@@ -58,7 +59,7 @@ add-if2 c = search needs
 returns-2 : tie.Need-returns-2
 returns-2 c =
     let x = c .before .before .before .before .before .before .args in let ns = x .nodes .now in
-    let e : length ns ≡ 64 = search needs in
+    let e : length ns ≡ max-nodes = search needs in
     rw (c .before .before .before .match .keys2) (last ns (x .n) (x .i) (omega arith) (omega arith) (c .before .before .reaches .result) (c .before .before .reaches .ensures) (c .before .if1 .left) (c .if2 .taken))
 
 element-copy-out-result : tie.Need-element-copy-out-result
@@ -81,7 +82,7 @@ returns-3 c =
 returns-4 : tie.Need-returns-4
 returns-4 c =
     let x = c .before .before .before .before .before .before .before .args in let ns = x .nodes .now in
-    let e : length ns ≡ 64 = search needs in
+    let e : length ns ≡ max-nodes = search needs in
     rw (c .before .before .before .before .match .keys2) (other ns (x .n) (x .i) (omega arith) (omega arith) (c .before .before .before .reaches .result) (c .before .before .before .reaches .ensures) (c .before .before .if1 .left) (c .before .if2 .left) (x .counts .now) (c .before .before .before .before .before .before .before .pre .1) (omega arith))
 
 returns-5 : tie.Need-returns-5

@@ -8,6 +8,7 @@ use lib.ListN.{length, take}
 use lib.Seq.{length-take-le}
 use Rattle.causes.specs.Causes.{Finding, clear, met}
 use Rattle.query.specs.Reading.Laws.{fault, fault-met, fault-clear, tree-6, tree-7, tree-8, tree-9, tree-done}
+use Rattle.query.specs.Reading.{max-nodes}
 use Rattle.query.proofs.judge.tree.Statement.{statement}
 use Rattle.query.proofs.judge.tree.Tie as tie
 
@@ -22,7 +23,7 @@ finding s cause = fault (s .args .widths .now) (s .args .constants) (nodes s) ca
 
 sized : (c : tie.After-count-uses) → length (nodes (c .before .before)) ≡ c .before .before .args .n
 sized c =
-    let x = c .before .before .args in let e : length (x .nodes .now) ≡ 64 = search needs in
+    let x = c .before .before .args in let e : length (x .nodes .now) ≡ max-nodes = search needs in
     length-take-le (x .n) (x .nodes .now) (omega arith)
 
 met-6 : (c : tie.Then1) → finding (c .before .before .before .before .before) 6 ≡ met (c .before .lowest-fault .result)
@@ -73,9 +74,6 @@ count-uses-requires c κs = search needs
 lowest-fault-requires : tie.Need-lowest-fault-requires
 lowest-fault-requires c κs = search needs
 
-cast-t15 : tie.Need-cast-t15
-cast-t15 c = search needs
-
 returns : tie.Need-returns
 returns c =
     let s = c .before .before .before .before .before in
@@ -83,9 +81,6 @@ returns c =
 
 lowest-fault-requires-2 : tie.Need-lowest-fault-requires-2
 lowest-fault-requires-2 c κs = search needs
-
-cast-t17 : tie.Need-cast-t17
-cast-t17 c = search needs
 
 returns-2 : tie.Need-returns-2
 returns-2 c =
@@ -95,9 +90,6 @@ returns-2 c =
 lowest-fault-requires-3 : tie.Need-lowest-fault-requires-3
 lowest-fault-requires-3 c κs = search needs
 
-cast-t19 : tie.Need-cast-t19
-cast-t19 c = search needs
-
 returns-3 : tie.Need-returns-3
 returns-3 c =
     let s = c .before .before .before .before .before .before .before .before .before .before .before in
@@ -105,9 +97,6 @@ returns-3 c =
 
 lowest-fault-requires-4 : tie.Need-lowest-fault-requires-4
 lowest-fault-requires-4 c κs = search needs
-
-cast-t21 : tie.Need-cast-t21
-cast-t21 c = search needs
 
 returns-4 : tie.Need-returns-4
 returns-4 c =
@@ -125,15 +114,11 @@ tree-spec =
     (tie.spec
     count-uses-requires
     lowest-fault-requires
-    cast-t15
     returns
     lowest-fault-requires-2
-    cast-t17
     returns-2
     lowest-fault-requires-3
-    cast-t19
     returns-3
     lowest-fault-requires-4
-    cast-t21
     returns-4
     returns-5)

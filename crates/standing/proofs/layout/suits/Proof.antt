@@ -1,4 +1,4 @@
--- `standing::layout::suits` meets its contract: with the query's columns and at most 512 rows, the tests of the layout are left, and each call that finds
+-- `standing::layout::suits` meets its contract: with the query's columns and at most `max-rows` rows, the tests of the layout are left, and each call that finds
 -- nothing is a law's premise at each later way out.
 use borrow.Author.Needs.{needs}
 use borrow.Author.Tests.{not-true, not-false}
@@ -13,7 +13,7 @@ use Rattle.calculus.specs.Order.{is-ascending}
 use Rattle.calculus.specs.Rows.{row-below}
 use Rattle.query.specs.declared.Columns.{Columns}
 use Rattle.standing.specs.declared.View.{View}
-use Rattle.standing.specs.View.{ends, lines-held, lines-unused}
+use Rattle.standing.specs.View.{ends, held-rows, unused-places}
 use Rattle.standing.specs.View.Layout.{suits-other, suits-many, suits-unended, suits-unordered, suits-full, suits-marked, suits-balanced}
 use Rattle.standing.proofs.layout.suits.Statement.{statement}
 use Rattle.standing.proofs.layout.suits.Tie as tie
@@ -27,7 +27,7 @@ asked c = c .before .before .before
 same-columns : (c : tie.Else1) → asked c .args .view .columns ≡ asked c .args .columns
 same-columns c = confirmed-by (not-false _ (c .if1 .left)) (c .before .agree .ensures)
 
--- There are at most 512 rows,
+-- There are at most `max-rows` rows,
 abbrev agreed : tie.Else2 → tie.Else1
 agreed c = c .before .before .before
 
@@ -41,14 +41,14 @@ columns c = asked (agreed c) .args .columns
 abbrev counted : tie.Else3 → tie.Else2
 counted c = c .before .before .before
 
-all-ended : (c : tie.Else3) → all-of (ends (columns (counted c) .count)) (lines-held (list (counted c) .rows)) ≡ true
+all-ended : (c : tie.Else3) → all-of (ends (columns (counted c) .count)) (held-rows (list (counted c) .rows)) ≡ true
 all-ended c = sym (c .before .all-end .ensures) ∙ not-false _ (c .if3 .left)
 
 -- in order,
 abbrev ended : tie.Else4 → tie.Else3
 ended c = c .before .before .before
 
-all-ordered : (c : tie.Else4) → is-ascending row-below (lines-held (list (counted (ended c)) .rows)) ≡ true
+all-ordered : (c : tie.Else4) → is-ascending row-below (held-rows (list (counted (ended c)) .rows)) ≡ true
 all-ordered c = sym (c .before .all-ascend .ensures) ∙ not-false _ (c .if4 .left)
 
 -- and the rest zero.
@@ -58,7 +58,7 @@ ordered c = c .before .before .before
 abbrev held : tie.Else5 → tie.Else2
 held c = counted (ended (ordered c))
 
-rest-is-zero : (c : tie.Else5) → all-of (ends 0) (lines-unused (list (held c) .rows)) ≡ true
+rest-is-zero : (c : tie.Else5) → all-of (ends 0) (unused-places (list (held c) .rows)) ≡ true
 rest-is-zero c = sym (c .before .rest-zero .ensures) ∙ not-false _ (c .if5 .left)
 
 -- An endless list has no rows.

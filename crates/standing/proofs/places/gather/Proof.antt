@@ -5,6 +5,7 @@ use native.Mathlib.Nat.{zero-mul}
 use borrow.Author.Needs.{needs}
 use mathlib.Core.Path.{_≡_, refl, sym, ap, _∙_}
 use lib.ListN.{length}
+use Rattle.standing.specs.View.{max-rows}
 use Rattle.standing.specs.Change.{fronted}
 use Rattle.answer.specs.Code.Listing.Cut.{position-next, position-within}
 use Rattle.standing.proofs.Carrying.{first-rows, position-small, gather-next}
@@ -12,7 +13,7 @@ use Rattle.standing.proofs.places.gather.Statement.{statement}
 use Rattle.standing.proofs.places.gather.Tie as tie
 
 abbrev Inv-loop : tie.InvT-loop
-Inv-loop k out₀ values n i₀ at₀ out i at = (i ≤ n) × (at ≡ i * k) × (length out ≡ length out₀) × (length values ≡ 2048) × (out ≡ fronted (first-rows k i values) out₀)
+Inv-loop k out₀ values n i₀ at₀ out i at = (i ≤ n) × (at ≡ i * k) × (length out ≡ length out₀) × (length values ≡ 4 * max-rows) × (out ≡ fronted (first-rows k i values) out₀)
 
 abbrev μ-loop : tie.MeasureT-loop
 μ-loop k out₀ values n i₀ at₀ out i at = n - i

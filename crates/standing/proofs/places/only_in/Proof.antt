@@ -1,6 +1,6 @@
 -- `standing::places::only_in` meets its contract. The loop's invariant: the rows before place i of the first list that the second has not are written, and the rows
 -- before place j of the second are below that at i.
-use Prim.Native.Nat.{_+_, _≤_, _<_, _-_}
+use Prim.Native.Nat.{_+_, _*_, _≤_, _<_, _-_}
 use native.Mathlib.Omega.{arith}
 use borrow.Author.Needs.{needs}
 use borrow.Author.Tests.{not-true, not-false}
@@ -9,7 +9,7 @@ use mathlib.Core.Logic.{⊎-elim}
 use lib.ListN.{length, take}
 use Rattle.calculus.specs.Sets.{any-of, same-list}
 use Rattle.calculus.specs.Rows.{Row}
-use Rattle.standing.specs.View.{line-at, lines, lines-held, stored}
+use Rattle.standing.specs.View.{max-rows, row-at, row-places, held-rows, stored}
 use Rattle.standing.specs.Code.View.{Passed}
 use Rattle.calculus.specs.Lists.Laws.{tested}
 use Rattle.standing.proofs.Walking.{passed-on, found, written, found-none, found-sizes, found-without, found-written}
@@ -18,13 +18,13 @@ use Rattle.standing.proofs.places.only_in.Tie as tie
 
 abbrev Inv-loop : tie.InvT-loop
 Inv-loop xs ys n m values₀ count₀ i₀ j₀ values count i j =
-    (i ≤ n) × (count ≤ i) × (length xs ≡ 2048) × (length values ≡ 2048) × (i < n → Passed (take m (lines ys)) j (line-at xs i)) × (written values count ≡ stored (found xs i (take m (lines ys))))
+    (i ≤ n) × (count ≤ i) × (length xs ≡ 4 * max-rows) × (length values ≡ 4 * max-rows) × (i < n → Passed (take m (row-places ys)) j (row-at xs i)) × (written values count ≡ stored (found xs i (take m (row-places ys))))
 
 abbrev μ-loop : tie.MeasureT-loop
 μ-loop xs ys n m values₀ count₀ i₀ j₀ values count i j = n - i
 
 loop-holds : tie.Need-loop-holds Inv-loop μ-loop
-loop-holds c = let s = c .before .before .args in (omega arith, omega arith, search needs, search needs, λ h o l. absurd (omega arith), found-none (s .a .values) (lines-held (s .b)))
+loop-holds c = let s = c .before .before .args in (omega arith, omega arith, search needs, search needs, λ h o l. absurd (omega arith), found-none (s .a .values) (held-rows (s .b)))
 
 read-requires : tie.Need-read-requires Inv-loop μ-loop
 read-requires c κs = search needs
@@ -32,7 +32,7 @@ read-requires c κs = search needs
 skip-requires : tie.Need-skip-requires Inv-loop μ-loop
 skip-requires c κs =
     let s = c .before .before .before .before .before .before .before in let l = c .before .before .before .before .loop in
-    (s .pre .1 .0, subst⁻¹ (Passed (lines-held (s .args .b)) (l .j)) (c .before .read .ensures) (l .inv .4 (c .before .before .before .loop-test .taken)))
+    (s .pre .1 .0, subst⁻¹ (Passed (held-rows (s .args .b)) (l .j)) (c .before .read .ensures) (l .inv .4 (c .before .before .before .loop-test .taken)))
 
 stands-requires : tie.Need-stands-requires Inv-loop μ-loop
 stands-requires c κs = let s = c .before .before .before .before .before .before .before .before .before in (s .pre .1 .0, s .pre .1 .1, c .before .skip .ensures)
@@ -64,10 +64,10 @@ loop-less c = search needs
 loop-again : tie.Need-loop-again Inv-loop μ-loop
 loop-again c =
     let s = c .before .before .before .before .before .before .before .before .before .before .before in
-    let xs = s .args .a .values in let n = s .args .a .count in let ys = lines-held (s .args .b) in
+    let xs = s .args .a .values in let n = s .args .a .count in let ys = held-rows (s .args .b) in
     let l = c .before .before .before .before .before .before .before .before .loop in let i = l .i in
     let h = c .before .before .before .before .before .before .before .loop-test .taken in
-    let few : i < 512 = omega (arith, h, s .pre .0 .0) in
+    let few : i < max-rows = omega (arith, h, s .pre .0 .0) in
     let here = c .before .before .before .before .before .read .ensures in let p = c .before .before .before .skip in
     let told = tested (λ (x : Row). any-of (same-list x) ys) (c .before .stands .ensures) here in
     let e : written (c .if1 .values) (c .if1 .count) ≡ stored (found xs (i + 1) ys) =
@@ -81,7 +81,7 @@ loop-again c =
 returns : tie.Need-returns Inv-loop μ-loop
 returns c =
     let s = c .before .before .before .before .args in let l = c .before .loop in let e : l .i ≡ s .a .count = omega arith in
-    l .inv .5 ∙ ap (λ k. stored (found (s .a .values) k (lines-held (s .b)))) e
+    l .inv .5 ∙ ap (λ k. stored (found (s .a .values) k (held-rows (s .b)))) e
 
 pub only-in-spec : {M : Type 1} → statement M
 only-in-spec =

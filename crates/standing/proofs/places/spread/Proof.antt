@@ -7,14 +7,14 @@ use mathlib.Core.Path.{_≡_, sym, ap, _∙_}
 use lib.ListN.{length}
 use Rattle.answer.specs.Code.Listing.{cut}
 use Rattle.answer.specs.Code.Listing.Cut.{length-cut, position-next, position-within}
-use Rattle.standing.specs.View.{stored}
+use Rattle.standing.specs.View.{max-rows, stored}
 use Rattle.standing.specs.View.Laws.{stored-none}
 use Rattle.standing.proofs.Carrying.{position-small, spread-next}
 use Rattle.standing.proofs.places.spread.Statement.{statement}
 use Rattle.standing.proofs.places.spread.Tie as tie
 
 abbrev Inv-loop : tie.InvT-loop
-Inv-loop numbers k n values₀ i₀ at₀ values i at = (i ≤ n) × (at ≡ i * k) × (length values ≡ 2048) × (values ≡ stored (cut k i numbers) .values)
+Inv-loop numbers k n values₀ i₀ at₀ values i at = (i ≤ n) × (at ≡ i * k) × (length values ≡ 4 * max-rows) × (values ≡ stored (cut k i numbers) .values)
 
 abbrev μ-loop : tie.MeasureT-loop
 μ-loop numbers k n values₀ i₀ at₀ values i at = n - i

@@ -1,28 +1,23 @@
--- `tables::layout::all_ascend` meets its contract. The loop's invariant: the records from place i - 1 on decide.
-use Prim.Native.Nat.{_<_, _-_}
+-- `tables::layout::all_ascend` meets its contract. The loop is the one of calculus' Order/Laws, over the records at their places.
+use Prim.Native.Nat.{_-_}
 use native.Mathlib.Omega.{arith}
 use borrow.Author.Needs.{needs}
-use borrow.Author.Tests.{not-true, not-false}
-use mathlib.Core.Path.{_≡_, refl, sym, _∙_}
-use lib.ListN.{take, drop}
-use Rattle.calculus.specs.Order.{is-ascending}
+use lib.ListN.{take}
+use Rattle.calculus.specs.Order.Laws.{AscendsFrom, ascends-starts, ascends-ends, ascends-stops, ascends-goes}
 use Rattle.tables.specs.Records.{record-below, blank}
-use Rattle.tables.specs.Store.{places}
+use Rattle.tables.specs.Store.{record-at, places}
 use Rattle.tables.specs.Store.Places.{length-first, getD-first}
-use Rattle.calculus.specs.Lists.Laws.{tested-pair}
-use Rattle.calculus.specs.Order.Laws.{ascending-stops, ascending-goes, ascending-ends}
 use Rattle.tables.proofs.layout.all_ascend.Statement.{statement}
 use Rattle.tables.proofs.layout.all_ascend.Tie as tie
 
 abbrev Inv-loop : tie.InvT-loop
-Inv-loop relations values count i₀ i =
-    (0 < i) × (is-ascending record-below (take count (places relations values)) ≡ is-ascending record-below (drop (i - 1) (take count (places relations values))))
+Inv-loop relations values count i₀ i = AscendsFrom record-below (take count (places relations values)) i
 
 abbrev μ-loop : tie.MeasureT-loop
 μ-loop relations values count i₀ i = count - i
 
 loop-holds : tie.Need-loop-holds Inv-loop μ-loop
-loop-holds c = (omega arith, refl)
+loop-holds c = let s = c .args in ascends-starts record-below (take (s .count) (places (s .relations .now) (s .values .now)))
 
 sub-read : tie.Need-sub-read Inv-loop μ-loop
 sub-read c = search needs
@@ -38,14 +33,10 @@ below-requires c κs = search needs
 
 returns : tie.Need-returns Inv-loop μ-loop
 returns c =
-    let s = c .before .before .before .before .before .before in
+    let t = c .before in let l = t .before .before .before .before in let s = l .before in
     let rs = s .args .relations .now in let vs = s .args .values .now in let n = s .args .count in
-    let i = c .before .before .before .before .before .loop .i in let inv = c .before .before .before .before .before .loop .inv in
-    sym
-    (inv .1
-    ∙ ascending-stops record-below (take n (places rs vs)) i blank (inv .0) (omega (arith, length-first rs vs n (s .pre)))
-    (tested-pair record-below (c .before .below .ensures) (c .before .before .before .read .ensures ∙ sym (getD-first rs vs n (s .pre) (i - 1) (omega arith))) (c .before .before .read2 .ensures ∙ sym (getD-first rs vs n (s .pre) i (omega arith)))
-    ∙ not-true _ (c .if1 .taken)))
+    ascends-stops record-below (take n (places rs vs)) n (length-first rs vs n (s .pre)) (l .loop .i) (l .loop .inv)
+    blank (record-at rs vs) (getD-first rs vs n (s .pre)) (omega arith) (t .below .ensures) (t .before .before .read .ensures) (t .before .read2 .ensures) (c .if1 .taken)
 
 add-i : tie.Need-add-i Inv-loop μ-loop
 add-i c = search needs
@@ -55,21 +46,15 @@ loop-less c = search needs
 
 loop-again : tie.Need-loop-again Inv-loop μ-loop
 loop-again c =
-    let s = c .before .before .before .before .before .before in
+    let t = c .before in let l = t .before .before .before .before in let s = l .before in
     let rs = s .args .relations .now in let vs = s .args .values .now in let n = s .args .count in
-    let i = c .before .before .before .before .before .loop .i in let inv = c .before .before .before .before .before .loop .inv in (
-      omega arith,
-      inv .1
-          ∙ ascending-goes record-below (take n (places rs vs)) i blank (inv .0) (omega (arith, length-first rs vs n (s .pre)))
-          (tested-pair record-below (c .before .below .ensures) (c .before .before .before .read .ensures ∙ sym (getD-first rs vs n (s .pre) (i - 1) (omega arith))) (c .before .before .read2 .ensures ∙ sym (getD-first rs vs n (s .pre) i (omega arith)))
-          ∙ not-false _ (c .if1 .left)),
-    )
+    ascends-goes record-below (take n (places rs vs)) n (length-first rs vs n (s .pre)) (l .loop .i) (l .loop .inv)
+    blank (record-at rs vs) (getD-first rs vs n (s .pre)) (omega arith) (t .below .ensures) (t .before .before .read .ensures) (t .before .read2 .ensures) (c .if1 .left)
 
 returns-2 : tie.Need-returns-2 Inv-loop μ-loop
 returns-2 c =
-    let s = c .before .before in
-    let rs = s .args .relations .now in let vs = s .args .values .now in let n = s .args .count in
-    sym (c .before .loop .inv .1 ∙ ascending-ends record-below (take n (places rs vs)) (c .before .loop .i) blank (c .before .loop .inv .0) (omega (arith, length-first rs vs n (s .pre))))
+    let l = c .before in let s = l .before in let rs = s .args .relations .now in let vs = s .args .values .now in let n = s .args .count in
+    ascends-ends record-below (take n (places rs vs)) n (length-first rs vs n (s .pre)) (l .loop .i) (l .loop .inv) (omega arith)
 
 pub all-ascend-spec : {M : Type 1} → statement M
 all-ascend-spec =

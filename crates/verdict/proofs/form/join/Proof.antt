@@ -3,6 +3,7 @@ use native.Mathlib.Omega.{arith}
 use borrow.Author.Needs.{needs}
 use mathlib.Core.Path.{sym, _∙_}
 use lib.ListN.{take}
+use Rattle.query.specs.Code.Fields.Laws.{kind-read, kind-not-read}
 use Rattle.verdict.proofs.Writing.{held-again, held-first, joined-other, joined-unit, joined-zero}
 use Rattle.verdict.proofs.form.join.Statement.{statement}
 use Rattle.verdict.proofs.form.join.Tie as tie
@@ -16,40 +17,25 @@ mul-last c = search needs
 shared-slice-read-last : tie.Need-shared-slice-read-last
 shared-slice-read-last c = search needs
 
-mul-push : tie.Need-mul-push
-mul-push c = search needs
+fields-requires : tie.Need-fields-requires
+fields-requires c κs = search needs
 
-cast-push : tie.Need-cast-push
-cast-push c = search needs
+sub-junction : tie.Need-sub-junction
+sub-junction c = search needs
 
-sub-push : tie.Need-sub-push
-sub-push c = search needs
+sub-junction-2 : tie.Need-sub-junction-2
+sub-junction-2 c = search needs
 
-mul-push-2 : tie.Need-mul-push-2
-mul-push-2 c = search needs
-
-add-push : tie.Need-add-push
-add-push c = search needs
-
-cast-push-2 : tie.Need-cast-push-2
-cast-push-2 c = search needs
-
-sub-push-2 : tie.Need-sub-push-2
-sub-push-2 c = search needs
-
-mul-push-3 : tie.Need-mul-push-3
-mul-push-3 c = search needs
-
-add-push-2 : tie.Need-add-push-2
-add-push-2 c = search needs
+junction-requires : tie.Need-junction-requires
+junction-requires c κs = search needs
 
 push-requires : tie.Need-push-requires
 push-requires c κs = search needs
 
 returns : tie.Need-returns
 returns c =
-    let s = c .before .before .before .before .before .before in let out = s .args .out .now in let end = s .args .end in
-    joined-other out end (omega arith) (omega arith) (s .pre .1) (s .args .kind) (s .args .at) (s .args .middle) (c .before .before .if1 .taken) (c .push .ensures)
+    let f = c .before .before .before .before in let s = f .before .before .before .before in let out = s .args .out .now in let end = s .args .end in
+    joined-other out end (omega arith) (omega arith) (s .pre .1) (s .args .kind) (s .args .at) (s .args .middle) (kind-not-read (f .fields .ensures) (c .before .before .before .if1 .taken)) (rw (c .before .junction .ensures) at (c .push .ensures))
 
 unit-requires : tie.Need-unit-requires
 unit-requires c κs = search needs
@@ -59,22 +45,22 @@ cut-requires c κs = search needs
 
 returns-2 : tie.Need-returns-2
 returns-2 c =
-    let s = c .before .before .before .before .before .before .before .before in let out = s .args .out .now in let end = s .args .end in
-    joined-unit out end (omega arith) (omega arith) (s .pre .1) (s .args .kind) (s .args .at) (s .args .middle) (c .before .before .before .before .if1 .left) (c .cut .last .0) (omega arith) (c .cut .ensures) (c .before .before .if2 .taken ∙ c .before .before .before .unit .ensures)
+    let f = c .before .before .before .before .before in let s = f .before .before .before .before in let out = s .args .out .now in let end = s .args .end in
+    joined-unit out end (omega arith) (omega arith) (s .pre .1) (s .args .kind) (s .args .at) (s .args .middle) (kind-read (f .fields .ensures) (c .before .before .before .before .if1 .left)) (c .cut .last .0) (omega arith) (c .cut .ensures) (c .before .before .if2 .taken ∙ c .before .before .before .unit .ensures)
 
 cut-requires-2 : tie.Need-cut-requires-2
 cut-requires-2 c κs = search needs
 
 push-requires-2 : tie.Need-push-requires-2
 push-requires-2 c κs =
-    let s = c .before .before .before .before .before .before .before .before .before in let out = s .args .out .now in let end = s .args .end in
+    let s = c .before .before .before .before .before .before .before .before .before .before in let out = s .args .out .now in let end = s .args .end in
     let now = c .before .cut2 .last .0 in
     (omega arith, held-again now (s .args .at) (take (s .args .at) (take end out)) (held-first out end (omega arith) (omega arith) (s .pre .1) now (s .args .at) (omega arith) (c .before .cut2 .ensures)))
 
 returns-3 : tie.Need-returns-3
 returns-3 c =
-    let s = c .before .before .before .before .before .before .before .before .before .before in let out = s .args .out .now in let end = s .args .end in
-    joined-zero out end (omega arith) (omega arith) (s .pre .1) (s .args .kind) (s .args .at) (s .args .middle) (c .before .before .before .before .before .before .if1 .left) (c .before .before .cut2 .last .0) (omega arith) (c .before .before .cut2 .ensures) (λ e. c .before .before .before .before .if2 .left (e ∙ sym (c .before .before .before .before .before .unit .ensures))) (c .push2 .ensures)
+    let f = c .before .before .before .before .before .before .before in let s = f .before .before .before .before in let out = s .args .out .now in let end = s .args .end in
+    joined-zero out end (omega arith) (omega arith) (s .pre .1) (s .args .kind) (s .args .at) (s .args .middle) (kind-read (f .fields .ensures) (c .before .before .before .before .before .before .if1 .left)) (c .before .before .cut2 .last .0) (omega arith) (c .before .before .cut2 .ensures) (λ e. c .before .before .before .before .if2 .left (e ∙ sym (c .before .before .before .before .before .unit .ensures))) (c .push2 .ensures)
 
 pub join-spec : {M : Type 1} → statement M
 join-spec =
@@ -83,15 +69,10 @@ join-spec =
     sub-last
     mul-last
     shared-slice-read-last
-    mul-push
-    cast-push
-    sub-push
-    mul-push-2
-    add-push
-    cast-push-2
-    sub-push-2
-    mul-push-3
-    add-push-2
+    fields-requires
+    sub-junction
+    sub-junction-2
+    junction-requires
     push-requires
     returns
     unit-requires

@@ -35,22 +35,16 @@ returns-2 c =
     let s = c .before .before .before .before .before in let out = s .args .out .now in let end = s .args .end in
     negated-true out end (s .pre .0) (s .pre .1) (s .pre .2) (c .if2 .taken)
 
-cast-push : tie.Need-cast-push
-cast-push c = search needs
-
-mul-push : tie.Need-mul-push
-mul-push c = search needs
-
-add-push : tie.Need-add-push
-add-push c = search needs
+negation-requires : tie.Need-negation-requires
+negation-requires c κs = search needs
 
 push-requires : tie.Need-push-requires
 push-requires c κs = search needs
 
 returns-3 : tie.Need-returns-3
 returns-3 c =
-    let s = c .before .before .before .before .before .before .before in let out = s .args .out .now in let end = s .args .end in
-    negated-other out end (s .pre .0) (s .pre .1) (s .pre .2) (c .before .before .before .if1 .left) (c .before .before .if2 .left) (c .push .ensures)
+    let s = c .before .before .before .before .before .before .before .before in let out = s .args .out .now in let end = s .args .end in
+    negated-other out end (s .pre .0) (s .pre .1) (s .pre .2) (c .before .before .before .before .if1 .left) (c .before .before .before .if2 .left) (rw (c .before .negation .ensures) at (c .push .ensures))
 
 pub negate-spec : {M : Type 1} → statement M
 negate-spec =
@@ -65,8 +59,6 @@ negate-spec =
     mul-out-2
     element-write-out-2
     returns-2
-    cast-push
-    mul-push
-    add-push
+    negation-requires
     push-requires
     returns-3)

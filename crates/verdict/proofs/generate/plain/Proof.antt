@@ -2,27 +2,38 @@
 use borrow.Author.Needs.{needs}
 use borrow.Author.Tests.{eq-eqb, ne-eqb, le-ltb, lt-ltb}
 use Rattle.query.specs.Nodes.{truth-bit, equal-term}
+use Rattle.query.specs.Code.Fields.Laws.{kind-read, kind-not-read}
 use Rattle.verdict.proofs.Sets.{kind-seven}
 use Rattle.verdict.proofs.generate.plain.Statement.{statement}
 use Rattle.verdict.proofs.generate.plain.Tie as tie
 
-cast-left : tie.Need-cast-left
-cast-left c = search needs
-
-cast-right : tie.Need-cast-right
-cast-right c = search needs
-
-cast-under : tie.Need-cast-under
-cast-under c = search needs
+fields-requires : tie.Need-fields-requires
+fields-requires c κs = search needs
 
 returns : tie.Need-returns
-returns c = rw (c .before .match .keys1, eq-eqb (truth-bit (c .before .before .args .w)) 1 (c .if1 .taken))
+returns c =
+    let f = c .before .before .before in let n = f .fields .ensures in
+    rw (kind-read n (c .before .match .keys1), eq-eqb (truth-bit (f .before .args .w)) 1 (rw (n .reads) at (c .if1 .taken)))
+
+array-read-term-bits : tie.Need-array-read-term-bits
+array-read-term-bits c = search needs
+
+array-read-term-bits-2 : tie.Need-array-read-term-bits-2
+array-read-term-bits-2 c = search needs
+
+array-read-term-bits-3 : tie.Need-array-read-term-bits-3
+array-read-term-bits-3 c = search needs
+
+array-read-term-bits-4 : tie.Need-array-read-term-bits-4
+array-read-term-bits-4 c = search needs
 
 term-bits-requires : tie.Need-term-bits-requires
 term-bits-requires c κs = search needs
 
 returns-2 : tie.Need-returns-2
-returns-2 c = rw (c .before .match .keys3, lt-ltb (equal-term (c .before .before .args .w)) 16 (c .if2 .taken))
+returns-2 c =
+    let f = c .before .before .before in let n = f .fields .ensures in
+    rw (kind-read n (c .before .match .keys3), lt-ltb (equal-term (f .before .args .w)) 16 (rw (n .reads) at (c .if2 .taken)))
 
 term-bit-requires : tie.Need-term-bit-requires
 term-bit-requires c κs = search needs
@@ -82,39 +93,50 @@ leave-out-requires : tie.Need-leave-out-requires
 leave-out-requires c κs = search needs
 
 returns-3 : tie.Need-returns-3
-returns-3 c = rw (c .before .match .keys1, ne-eqb (truth-bit (c .before .before .args .w)) 1 (c .if1 .left))
+returns-3 c =
+    let f = c .before .before .before in let n = f .fields .ensures in
+    rw (kind-read n (c .before .match .keys1), ne-eqb (truth-bit (f .before .args .w)) 1 (rw (n .reads) at (c .if1 .left)))
 
 returns-4 : tie.Need-returns-4
-returns-4 c = rw (c .before .match .keys2, c .term-bits .ensures)
+returns-4 c =
+    let n = c .before .before .before .fields .ensures in
+    rw (kind-read n (c .before .match .keys2)) (rw (n .reads) at (c .term-bits .ensures))
 
 returns-5 : tie.Need-returns-5
-returns-5 c = rw (c .before .before .match .keys3, le-ltb (equal-term (c .before .before .before .args .w)) 16 (c .before .if2 .left), c .term-bit .ensures)
+returns-5 c =
+    let f = c .before .before .before .before in let n = f .fields .ensures in
+    rw (kind-read n (c .before .before .match .keys3), le-ltb (equal-term (f .before .args .w)) 16 (rw (n .reads) at (c .before .if2 .left))) (rw (n .reads) at (c .term-bit .ensures))
 
 returns-6 : tie.Need-returns-6
-returns-6 c = rw (c .before .match .keys4)
+returns-6 c = let n = c .before .before .before .fields .ensures in rw (n .reads, kind-read n (c .before .match .keys4))
 
 returns-7 : tie.Need-returns-7
-returns-7 c = rw (c .before .before .before .before .before .match .keys5, c .equated .ensures)
+returns-7 c =
+    let m = c .before .before .before .before .before in let n = m .before .before .fields .ensures in
+    rw (c .equated .ensures, n .reads, kind-read n (m .match .keys5))
 
 returns-8 : tie.Need-returns-8
-returns-8 c = rw (c .before .before .match .keys6)
+returns-8 c = let n = c .before .before .before .before .fields .ensures in rw (n .reads, kind-read n (c .before .before .match .keys6))
 
 returns-9 : tie.Need-returns-9
-returns-9 c = rw (c .before .before .match .keys7, c .leave-out .ensures)
+returns-9 c = let n = c .before .before .before .before .fields .ensures in rw (c .leave-out .ensures, n .reads, kind-read n (c .before .before .match .keys7))
 
 returns-10 : tie.Need-returns-10
 returns-10 c =
-    let r = c .match .rest in
-    rw (kind-seven (c .before .args .w) (c .before .fits .w .fits) (r .0 .0 .0 .0 .0 .0 .1) (r .0 .0 .0 .0 .0 .1) (r .0 .0 .0 .0 .1) (r .0 .0 .0 .1) (r .0 .0 .1) (r .0 .1) (r .1))
+    let f = c .before .before in let n = f .fields .ensures in let r = c .match .rest in
+    rw
+    (kind-seven (f .before .args .w) (f .before .fits .w .fits) (kind-not-read n (r .0 .0 .0 .0 .0 .0 .1)) (kind-not-read n (r .0 .0 .0 .0 .0 .1)) (kind-not-read n (r .0 .0 .0 .0 .1)) (kind-not-read n (r .0 .0 .0 .1)) (kind-not-read n (r .0 .0 .1)) (kind-not-read n (r .0 .1)) (kind-not-read n (r .1)))
 
 pub plain-spec : {M : Type 1} → statement M
 plain-spec =
     tie.close
     (tie.spec
-    cast-left
-    cast-right
-    cast-under
+    fields-requires
     returns
+    array-read-term-bits
+    array-read-term-bits-2
+    array-read-term-bits-3
+    array-read-term-bits-4
     term-bits-requires
     returns-2
     term-bit-requires

@@ -38,7 +38,7 @@ plain-requires c κs =
     let s = t .args in
     let l = c .before .before .loop in
     let column = in-take 0 (s .columns .variables) (s .columns .count) (l .c) (omega arith) (omega (arith, l .inv .1)) in (
-      (t .pre .0 .0, omega (arith, t .pre .0 .0 .some-node), subst⁻¹ (λ x. x < 16) (c .wide .ensures) (t .pre .1 .1 (getD (s .columns .variables) (l .c) 0) column)),
+      (t .pre .0 .0, omega (arith, t .pre .0 .0 .some-node), subst⁻¹ (λ x. x < 16) (c .wide .ensures .0) (t .pre .1 .1 (getD (s .columns .variables) (l .c) 0) column)),
       (t .pre .0 .1, t .pre .0 .2),
     )
 
@@ -63,7 +63,7 @@ loop-again c =
       omega arith,
       l .inv .1,
       simp length-set (l .inv .2),
-      numbers-more (λ j. f (getD xs j 0)) 4 (l .c) (c .plain .result) (l .numbers) (omega arith) (l .inv .3) (c .plain .ensures ∙ ap f (c .before .wide .ensures)),
+      numbers-more (λ j. f (getD xs j 0)) 4 (l .c) (c .plain .result) (l .numbers) (omega arith) (l .inv .3) (c .plain .ensures ∙ ap f (c .before .wide .ensures .0)),
     )
 
 returns : tie.Need-returns Inv-loop μ-loop

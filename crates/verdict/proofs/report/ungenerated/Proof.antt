@@ -47,8 +47,8 @@ loop-again c =
       omega arith,
       l .inv .1,
       ⊎-elim
-          (λ w. w .2 ∙ missing-more (s .set) (s .columns .variables) (l .c) (c .before .before .wide .result) (l .missing) (omega (arith, l .inv .1)) (c .before .before .wide .ensures) (l .inv .2) (w .1 .result) (w .1 .ensures) (says ∙ w .0 .taken))
-          (λ w. w .1 ∙ missing-still (s .set) (s .columns .variables) (l .c) (c .before .before .wide .result) (l .missing) (omega (arith, l .inv .1)) (c .before .before .wide .ensures) (l .inv .2) (says ∙ w .0 .left))
+          (λ w. w .2 ∙ missing-more (s .set) (s .columns .variables) (l .c) (c .before .before .wide .result) (l .missing) (omega (arith, l .inv .1)) (c .before .before .wide .ensures .0) (l .inv .2) (w .1 .result) (w .1 .ensures) (says ∙ w .0 .taken))
+          (λ w. w .1 ∙ missing-still (s .set) (s .columns .variables) (l .c) (c .before .before .wide .result) (l .missing) (omega (arith, l .inv .1)) (c .before .before .wide .ensures .0) (l .inv .2) (says ∙ w .0 .left))
           (c .if1 .came),
     )
 

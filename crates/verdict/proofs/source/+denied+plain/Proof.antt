@@ -4,13 +4,15 @@ use native.Mathlib.Omega.{arith}
 use borrow.Author.Needs.{needs}
 use borrow.Author.Tests.{not-true, not-false}
 use Prim.Native.Nat.{ℕ, zero, suc, _≤_, _<_}
-use mathlib.Core.Path.{_≡_, refl, sym, ap, subst, _∙_}
+use mathlib.Core.Path.{_≡_, refl, sym, ap, _∙_}
 use mathlib.Core.Logic.{_⊎_, inl, inr}
 use mathlib.Core.Bool.{Bool, true, false}
 use mathlib.Core.List.{List}
 use lib.ListN.{getD}
 use Rattle.calculus.specs.Sets as sets
 use Rattle.query.specs.Nodes.{kind, left, right, under, children}
+use Rattle.query.specs.Code.Fields.{NodeOf}
+use Rattle.query.specs.Code.Fields.Laws.{kind-read, kind-not-read}
 use Rattle.query.specs.Nodes.Laws.{children-not, children-exists, both-children}
 use Rattle.verdict.specs.Bits.{has}
 use Rattle.verdict.specs.Code.Form.{IsForm}
@@ -25,6 +27,7 @@ use Rattle.verdict.proofs.source.+denied+plain.Lts-denied as denied-lts
 use Rattle.verdict.proofs.source.plain.Reads as plain
 use Rattle.verdict.proofs.source.plain.Kinds as plain-kinds
 use Rattle.verdict.proofs.source.+denied+plain.Lts-plain as plain-lts
+use Rattle.query.proofs.node.fields.Reads as fields-reads
 use Rattle.verdict.proofs.bits.is_in.Reads as is-in-reads
 use Rattle.verdict.proofs.bits.node_bit.Reads as node-bit-reads
 use Rattle.verdict.proofs.source.other.Reads as other-reads
@@ -125,24 +128,27 @@ abbrev plain-below : ℕ → In 1 plain-kinds.ps
 plain-below t = and 1 plain-kinds.ps (falls 1 plain-kinds.ps _<_ μ-plain t) plain.Pre
 
 abbrev denied-claims : ℕ → denied-lts.Claims
-denied-claims t = (is-in-reads.Asked, is-in-reads.Learnt, plain-below t, plain.Post, denied-below t, denied.Post)
+denied-claims t = (fields-reads.Asked, fields-reads.Learnt, is-in-reads.Asked, is-in-reads.Learnt, plain-below t, plain.Post, denied-below t, denied.Post)
 
 abbrev plain-claims : ℕ → plain-lts.Claims
 plain-claims t =
-    (is-in-reads.Asked, is-in-reads.Learnt, denied-below t, denied.Post, plain-below t, plain.Post, other-reads.Asked, other-reads.Learnt, node-bit-reads.Asked, node-bit-reads.Learnt)
+    (fields-reads.Asked, fields-reads.Learnt, is-in-reads.Asked, is-in-reads.Learnt, denied-below t, denied.Post, plain-below t, plain.Post, other-reads.Asked, other-reads.Learnt, node-bit-reads.Asked, node-bit-reads.Learnt)
 
 -- ---- denied
 
 module _ (t : ℕ) where
-  -- Past the first test: where the function started, that node i generates x there, and that it is an or where the match names no other kind.
+  -- Past the first test: where the function started, its node's fields, that node i generates x there, and that it is an or where the match names no other kind.
   abbrev denied-start : denied-lts.Else1 (denied-claims t) (denied-at t) denied.Post → denied-lts.Start (denied-claims t) (denied-at t) denied.Post
-  denied-start c = c .before .before .before .before .before
+  denied-start c = c .before .before .before .before .before .before
+
+  denied-node : (c : denied-lts.Else1 (denied-claims t) (denied-at t) denied.Post) → NodeOf (word (denied-start c .pre)) (c .before .before .before .fields .result)
+  denied-node c = c .before .before .before .fields .ensures
 
   denied-generates : (c : denied-lts.Else1 (denied-claims t) (denied-at t) denied.Post) → let a = denied-start c .args in order.generates-denied (a .nodes .now) (a .i) (a .x) ≡ true
   denied-generates c = denied-self (denied-start c .pre) (c .before .is-in .ensures) (not-false (c .before .is-in .result) (c .if1 .left))
 
   denied-or : (c : denied-lts.At-match-rest (denied-claims t) (denied-at t) denied.Post) → kind (word (denied-start (c .before) .pre)) ≡ 5
-  denied-or c = law (denied-start (c .before) .pre) order.denied-kind (denied-generates (c .before)) (c .match .rest .0 .1) (c .match .rest .1)
+  denied-or c = law (denied-start (c .before) .pre) order.denied-kind (denied-generates (c .before)) (kind-not-read (denied-node (c .before)) (c .match .rest .0 .1)) (kind-not-read (denied-node (c .before)) (c .match .rest .1))
 
   denied-mul-w : denied-lts.Need-mul-w (denied-claims t) (denied-at t) denied.Post
   denied-mul-w c = search needs
@@ -150,11 +156,8 @@ module _ (t : ℕ) where
   denied-shared-slice-read-w : denied-lts.Need-shared-slice-read-w (denied-claims t) (denied-at t) denied.Post
   denied-shared-slice-read-w c = search needs
 
-  denied-cast-left : denied-lts.Need-cast-left (denied-claims t) (denied-at t) denied.Post
-  denied-cast-left c = search needs
-
-  denied-cast-right : denied-lts.Need-cast-right (denied-claims t) (denied-at t) denied.Post
-  denied-cast-right c = search needs
+  denied-fields-requires : denied-lts.Need-fields-requires (denied-claims t) (denied-at t) denied.Post
+  denied-fields-requires c κs = search needs
 
   denied-mul-is-in : denied-lts.Need-mul-is-in (denied-claims t) (denied-at t) denied.Post
   denied-mul-is-in c = search needs
@@ -167,16 +170,16 @@ module _ (t : ℕ) where
 
   denied-returns : denied-lts.Need-returns (denied-claims t) (denied-at t) denied.Post
   denied-returns c =
-      let g = c .before .before .before .before .before .pre in sym (law g order.denied-none (denied-self g (c .before .is-in .ensures) (not-true (c .before .is-in .result) (c .if1 .taken))))
+      let g = c .before .before .before .before .before .before .pre in sym (law g order.denied-none (denied-self g (c .before .is-in .ensures) (not-true (c .before .is-in .result) (c .if1 .taken))))
 
   denied-plain-requires : denied-lts.Need-plain-requires (denied-claims t) (denied-at t) denied.Post
-  denied-plain-requires c κs = to-not (denied-start (c .before) .pre) (c .match .keys1)
+  denied-plain-requires c κs = let n = denied-node (c .before) in rw (n .reads) (to-not (denied-start (c .before) .pre) (kind-read n (c .match .keys1)))
 
   denied-denied-requires : denied-lts.Need-denied-requires (denied-claims t) (denied-at t) denied.Post
-  denied-denied-requires c κs = to-left (denied-start (c .before) .pre) (inl (c .match .keys2))
+  denied-denied-requires c κs = let n = denied-node (c .before) in rw (n .reads) (to-left (denied-start (c .before) .pre) (inl (kind-read n (c .match .keys2))))
 
   denied-denied-requires-2 : denied-lts.Need-denied-requires-2 (denied-claims t) (denied-at t) denied.Post
-  denied-denied-requires-2 c κs = to-right (denied-start (c .before .before) .pre) (inl (c .before .match .keys2))
+  denied-denied-requires-2 c κs = let n = denied-node (c .before .before) in rw (n .reads) (to-right (denied-start (c .before .before) .pre) (inl (kind-read n (c .before .match .keys2))))
 
   denied-mul-is-in-2 : denied-lts.Need-mul-is-in-2 (denied-claims t) (denied-at t) denied.Post
   denied-mul-is-in-2 c = search needs
@@ -188,42 +191,49 @@ module _ (t : ℕ) where
   denied-is-in-requires-2 c κs = search needs
 
   denied-denied-requires-3 : denied-lts.Need-denied-requires-3 (denied-claims t) (denied-at t) denied.Post
-  denied-denied-requires-3 c κs = let at = c .before .before .before in to-left (denied-start (at .before) .pre) (inr (denied-or at))
+  denied-denied-requires-3 c κs = let at = c .before .before .before in rw (denied-node (at .before) .reads) (to-left (denied-start (at .before) .pre) (inr (denied-or at)))
 
   denied-returns-2 : denied-lts.Need-returns-2 (denied-claims t) (denied-at t) denied.Post
   denied-returns-2 c =
-      let at = c .before .before .before .before in let g = denied-start (at .before) .pre in
-      c .denied3 .ensures ∙ sym (law g order.denied-or-left (denied-or at) (denied-left g (inr (denied-or at)) (c .before .before .is-in2 .ensures) (c .before .if2 .taken)))
+      let at = c .before .before .before .before in let g = denied-start (at .before) .pre in let e = denied-node (at .before) .reads in
+      (rw e at (c .denied3 .ensures)) ∙ sym (law g order.denied-or-left (denied-or at) (denied-left g (inr (denied-or at)) (rw e at (c .before .before .is-in2 .ensures)) (c .before .if2 .taken)))
 
   denied-denied-requires-4 : denied-lts.Need-denied-requires-4 (denied-claims t) (denied-at t) denied.Post
-  denied-denied-requires-4 c κs = let at = c .before .before .before in to-right (denied-start (at .before) .pre) (inr (denied-or at))
+  denied-denied-requires-4 c κs = let at = c .before .before .before in rw (denied-node (at .before) .reads) (to-right (denied-start (at .before) .pre) (inr (denied-or at)))
 
   denied-returns-3 : denied-lts.Need-returns-3 (denied-claims t) (denied-at t) denied.Post
-  denied-returns-3 c = c .plain .ensures ∙ sym (law (denied-start (c .before .before) .pre) order.denied-not (c .before .match .keys1))
+  denied-returns-3 c =
+      let n = denied-node (c .before .before) in
+      (rw (n .reads) at (c .plain .ensures)) ∙ sym (law (denied-start (c .before .before) .pre) order.denied-not (kind-read n (c .before .match .keys1)))
 
   denied-returns-4 : denied-lts.Need-returns-4 (denied-claims t) (denied-at t) denied.Post
   denied-returns-4 c =
-      let at = c .before .before in
-      rw (c .before .denied .ensures, c .denied2 .ensures) (sym (law (denied-start (at .before) .pre) order.denied-and (at .match .keys2) (denied-generates (at .before))))
+      let at = c .before .before in let n = denied-node (at .before) in
+      rw (c .before .denied .ensures, c .denied2 .ensures, n .reads) (sym (law (denied-start (at .before) .pre) order.denied-and (kind-read n (at .match .keys2)) (denied-generates (at .before))))
 
   denied-returns-5 : denied-lts.Need-returns-5 (denied-claims t) (denied-at t) denied.Post
   denied-returns-5 c =
-      let at = c .before .before .before .before in let g = denied-start (at .before) .pre in
-      c .denied4 .ensures ∙ sym (law g order.denied-or-right (denied-or at) (denied-left g (inr (denied-or at)) (c .before .before .is-in2 .ensures) (c .before .if2 .left)))
+      let at = c .before .before .before .before in let g = denied-start (at .before) .pre in let e = denied-node (at .before) .reads in
+      (rw e at (c .denied4 .ensures)) ∙ sym (law g order.denied-or-right (denied-or at) (denied-left g (inr (denied-or at)) (rw e at (c .before .before .is-in2 .ensures)) (c .before .if2 .left)))
 
 -- ---- plain
 
 module _ (t : ℕ) where
-  -- Past the first test: where the function started, and that node i generates x there.
+  -- Past the first test: where the function started, its node's fields, and that node i generates x there.
   abbrev plain-start : plain-lts.Else1 (plain-claims t) (plain-at t) plain.Post → plain-lts.Start (plain-claims t) (plain-at t) plain.Post
-  plain-start c = c .before .before .before .before .before
+  plain-start c = c .before .before .before .before .before .before
+
+  plain-node : (c : plain-lts.Else1 (plain-claims t) (plain-at t) plain.Post) → NodeOf (word (plain-start c .pre)) (c .before .before .before .fields .result)
+  plain-node c = c .before .before .before .fields .ensures
 
   plain-generates : (c : plain-lts.Else1 (plain-claims t) (plain-at t) plain.Post) → let a = plain-start c .args in order.generates (a .nodes .now) (a .i) (a .x) ≡ true
   plain-generates c = plain-self (plain-start c .pre) (c .before .is-in .ensures) (not-false (c .before .is-in .result) (c .if1 .left))
 
   -- An and past the second test: its left child doesn't generate x.
   plain-not-left : (c : plain-lts.Else2 (plain-claims t) (plain-at t) plain.Post) → let s = plain-start (c .before .before .before .before) in order.generates (s .args .nodes .now) (left (word (s .pre))) (s .args .x) ≡ false
-  plain-not-left c = let at = c .before .before .before in plain-left (plain-start (at .before) .pre) (inl (at .match .keys3)) (c .before .is-in2 .ensures) (c .if2 .left)
+  plain-not-left c =
+      let at = c .before .before .before in let n = plain-node (at .before) in
+      plain-left (plain-start (at .before) .pre) (inl (kind-read n (at .match .keys3))) (rw (n .reads) at (c .before .is-in2 .ensures)) (c .if2 .left)
 
   -- Past the third neither child does: the other side of the equality on the right is a variable, and the left child generates it.
   abbrev plain-and : plain-lts.After-is-in3 (plain-claims t) (plain-at t) plain.Post → plain-lts.At-match-keys3 (plain-claims t) (plain-at t) plain.Post
@@ -235,8 +245,8 @@ module _ (t : ℕ) where
       let y = other-side (getD (s .args .nodes .now) (right (word (s .pre))) 0) (s .args .x) in
       (y < 16) × (plain-nodes (s .args .nodes .now) (s .args .i) (s .args .x) ≡ plain-nodes (s .args .nodes .now) (left (word (s .pre))) y)
   plain-equated c =
-      let at = plain-and (c .before) in let g = plain-start (at .before) .pre in let k = at .match .keys3 in
-      law g order.nodes-and-equated k (plain-generates (at .before)) (plain-not-left (c .before .before .before)) (plain-right g (inl k) (c .before .is-in3 .ensures) (c .if3 .left))
+      let at = plain-and (c .before) in let g = plain-start (at .before) .pre in let n = plain-node (at .before) in let k = kind-read n (at .match .keys3) in
+      law g order.nodes-and-equated k (plain-generates (at .before)) (plain-not-left (c .before .before .before)) (plain-right g (inl k) (rw (n .reads) at (c .before .is-in3 .ensures)) (c .if3 .left))
 
   plain-mul-w : plain-lts.Need-mul-w (plain-claims t) (plain-at t) plain.Post
   plain-mul-w c = search needs
@@ -244,14 +254,8 @@ module _ (t : ℕ) where
   plain-shared-slice-read-w : plain-lts.Need-shared-slice-read-w (plain-claims t) (plain-at t) plain.Post
   plain-shared-slice-read-w c = search needs
 
-  plain-cast-left : plain-lts.Need-cast-left (plain-claims t) (plain-at t) plain.Post
-  plain-cast-left c = search needs
-
-  plain-cast-right : plain-lts.Need-cast-right (plain-claims t) (plain-at t) plain.Post
-  plain-cast-right c = search needs
-
-  plain-cast-under : plain-lts.Need-cast-under (plain-claims t) (plain-at t) plain.Post
-  plain-cast-under c = search needs
+  plain-fields-requires : plain-lts.Need-fields-requires (plain-claims t) (plain-at t) plain.Post
+  plain-fields-requires c κs = search needs
 
   plain-mul-is-in : plain-lts.Need-mul-is-in (plain-claims t) (plain-at t) plain.Post
   plain-mul-is-in c = search needs
@@ -264,10 +268,10 @@ module _ (t : ℕ) where
 
   plain-returns : plain-lts.Need-returns (plain-claims t) (plain-at t) plain.Post
   plain-returns c =
-      let g = c .before .before .before .before .before .pre in sym (law g order.nodes-none (plain-self g (c .before .is-in .ensures) (not-true (c .before .is-in .result) (c .if1 .taken))))
+      let g = c .before .before .before .before .before .before .pre in sym (law g order.nodes-none (plain-self g (c .before .is-in .ensures) (not-true (c .before .is-in .result) (c .if1 .taken))))
 
   plain-denied-requires : plain-lts.Need-denied-requires (plain-claims t) (plain-at t) plain.Post
-  plain-denied-requires c κs = to-not (plain-start (c .before) .pre) (c .match .keys2)
+  plain-denied-requires c κs = let n = plain-node (c .before) in rw (n .reads) (to-not (plain-start (c .before) .pre) (kind-read n (c .match .keys2)))
 
   plain-mul-is-in-2 : plain-lts.Need-mul-is-in-2 (plain-claims t) (plain-at t) plain.Post
   plain-mul-is-in-2 c = search needs
@@ -279,12 +283,12 @@ module _ (t : ℕ) where
   plain-is-in-requires-2 c κs = search needs
 
   plain-plain-requires : plain-lts.Need-plain-requires (plain-claims t) (plain-at t) plain.Post
-  plain-plain-requires c κs = let at = c .before .before .before in to-left (plain-start (at .before) .pre) (inl (at .match .keys3))
+  plain-plain-requires c κs = let at = c .before .before .before in let n = plain-node (at .before) in rw (n .reads) (to-left (plain-start (at .before) .pre) (inl (kind-read n (at .match .keys3))))
 
   plain-returns-2 : plain-lts.Need-returns-2 (plain-claims t) (plain-at t) plain.Post
   plain-returns-2 c =
-      let at = c .before .before .before .before in let g = plain-start (at .before) .pre in let k = at .match .keys3 in
-      c .plain .ensures ∙ sym (law g order.nodes-and-left k (plain-left g (inl k) (c .before .before .is-in2 .ensures) (c .before .if2 .taken)))
+      let at = c .before .before .before .before in let g = plain-start (at .before) .pre in let n = plain-node (at .before) in let k = kind-read n (at .match .keys3) in
+      (rw (n .reads) at (c .plain .ensures)) ∙ sym (law g order.nodes-and-left k (plain-left g (inl k) (rw (n .reads) at (c .before .before .is-in2 .ensures)) (c .before .if2 .taken)))
 
   plain-mul-is-in-3 : plain-lts.Need-mul-is-in-3 (plain-claims t) (plain-at t) plain.Post
   plain-mul-is-in-3 c = search needs
@@ -296,12 +300,12 @@ module _ (t : ℕ) where
   plain-is-in-requires-3 c κs = search needs
 
   plain-plain-requires-2 : plain-lts.Need-plain-requires-2 (plain-claims t) (plain-at t) plain.Post
-  plain-plain-requires-2 c κs = let at = plain-and (c .before) in to-right (plain-start (at .before) .pre) (inl (at .match .keys3))
+  plain-plain-requires-2 c κs = let at = plain-and (c .before) in let n = plain-node (at .before) in rw (n .reads) (to-right (plain-start (at .before) .pre) (inl (kind-read n (at .match .keys3))))
 
   plain-returns-3 : plain-lts.Need-returns-3 (plain-claims t) (plain-at t) plain.Post
   plain-returns-3 c =
-      let at = plain-and (c .before .before) in let g = plain-start (at .before) .pre in let k = at .match .keys3 in
-      c .plain2 .ensures ∙ sym (law g order.nodes-and-right k (plain-not-left (c .before .before .before .before)) (plain-right g (inl k) (c .before .before .is-in3 .ensures) (c .before .if3 .taken)))
+      let at = plain-and (c .before .before) in let g = plain-start (at .before) .pre in let n = plain-node (at .before) in let k = kind-read n (at .match .keys3) in
+      (rw (n .reads) at (c .plain2 .ensures)) ∙ sym (law g order.nodes-and-right k (plain-not-left (c .before .before .before .before)) (plain-right g (inl k) (rw (n .reads) at (c .before .before .is-in3 .ensures)) (c .before .if3 .taken)))
 
   plain-mul-other : plain-lts.Need-mul-other (plain-claims t) (plain-at t) plain.Post
   plain-mul-other c = search needs
@@ -314,46 +318,48 @@ module _ (t : ℕ) where
 
   plain-plain-requires-3 : plain-lts.Need-plain-requires-3 (plain-claims t) (plain-at t) plain.Post
   plain-plain-requires-3 c κs =
-      let at = plain-and (c .before .before .before) in let g = plain-start (at .before) .pre in
-      to-child g (both-children (word g) (inl (at .match .keys3)) .0) (subst (λ (y : ℕ). y < 16) (sym (c .other .ensures)) (plain-equated (c .before .before) .0))
+      let at = plain-and (c .before .before .before) in let g = plain-start (at .before) .pre in let n = plain-node (at .before) in
+      rw (c .other .ensures, n .reads) (to-child g (both-children (word g) (inl (kind-read n (at .match .keys3))) .0) (plain-equated (c .before .before) .0))
 
   plain-plain-requires-4 : plain-lts.Need-plain-requires-4 (plain-claims t) (plain-at t) plain.Post
-  plain-plain-requires-4 c κs = to-left (plain-start (c .before) .pre) (inr (c .match .keys4))
+  plain-plain-requires-4 c κs = let n = plain-node (c .before) in rw (n .reads) (to-left (plain-start (c .before) .pre) (inr (kind-read n (c .match .keys4))))
 
   plain-plain-requires-5 : plain-lts.Need-plain-requires-5 (plain-claims t) (plain-at t) plain.Post
-  plain-plain-requires-5 c κs = to-right (plain-start (c .before .before) .pre) (inr (c .before .match .keys4))
+  plain-plain-requires-5 c κs = let n = plain-node (c .before .before) in rw (n .reads) (to-right (plain-start (c .before .before) .pre) (inr (kind-read n (c .before .match .keys4))))
 
   plain-plain-requires-6 : plain-lts.Need-plain-requires-6 (plain-claims t) (plain-at t) plain.Post
-  plain-plain-requires-6 c κs = to-exists (plain-start (c .before) .pre) (c .match .keys5)
+  plain-plain-requires-6 c κs = let n = plain-node (c .before) in rw (n .reads) (to-exists (plain-start (c .before) .pre) (kind-read n (c .match .keys5)))
 
   plain-node-bit-requires : plain-lts.Need-node-bit-requires (plain-claims t) (plain-at t) plain.Post
   plain-node-bit-requires c κs = search needs
 
   plain-returns-4 : plain-lts.Need-returns-4 (plain-claims t) (plain-at t) plain.Post
-  plain-returns-4 c = sym (law (plain-start (c .before) .pre) order.nodes-truth (c .match .keys1))
+  plain-returns-4 c = sym (law (plain-start (c .before) .pre) order.nodes-truth (kind-read (plain-node (c .before)) (c .match .keys1)))
 
   plain-returns-5 : plain-lts.Need-returns-5 (plain-claims t) (plain-at t) plain.Post
-  plain-returns-5 c = c .denied .ensures ∙ sym (law (plain-start (c .before .before) .pre) order.nodes-not (c .before .match .keys2))
+  plain-returns-5 c =
+      let n = plain-node (c .before .before) in
+      (rw (n .reads) at (c .denied .ensures)) ∙ sym (law (plain-start (c .before .before) .pre) order.nodes-not (kind-read n (c .before .match .keys2)))
 
   plain-returns-6 : plain-lts.Need-returns-6 (plain-claims t) (plain-at t) plain.Post
   plain-returns-6 c =
-      let else3 = c .before .before .before in let s = plain-start (plain-and (else3 .before) .before) in
-      c .plain3 .ensures ∙ ap (plain-nodes (s .args .nodes .now) (left (word (s .pre)))) (c .before .other .ensures) ∙ sym (plain-equated else3 .1)
+      let else3 = c .before .before .before in let n = plain-node (plain-and (else3 .before) .before) in
+      (rw (c .before .other .ensures, n .reads) at (c .plain3 .ensures)) ∙ sym (plain-equated else3 .1)
 
   plain-returns-7 : plain-lts.Need-returns-7 (plain-claims t) (plain-at t) plain.Post
   plain-returns-7 c =
-      let at = c .before .before in
-      rw (c .before .plain4 .ensures, c .plain5 .ensures) (sym (law (plain-start (at .before) .pre) order.nodes-or (at .match .keys4) (plain-generates (at .before))))
+      let at = c .before .before in let n = plain-node (at .before) in
+      rw (c .before .plain4 .ensures, c .plain5 .ensures, n .reads) (sym (law (plain-start (at .before) .pre) order.nodes-or (kind-read n (at .match .keys4)) (plain-generates (at .before))))
 
   plain-returns-8 : plain-lts.Need-returns-8 (plain-claims t) (plain-at t) plain.Post
   plain-returns-8 c =
-      let at = c .before in
-      c .plain6 .ensures ∙ sym (law (plain-start (at .before) .pre) order.nodes-exists (at .match .keys5) (plain-generates (at .before)))
+      let at = c .before in let n = plain-node (at .before) in
+      (rw (n .reads) at (c .plain6 .ensures)) ∙ sym (law (plain-start (at .before) .pre) order.nodes-exists (kind-read n (at .match .keys5)) (plain-generates (at .before)))
 
   plain-returns-9 : plain-lts.Need-returns-9 (plain-claims t) (plain-at t) plain.Post
   plain-returns-9 c =
       let at = c .before in let g = plain-start (at .before) .pre in
-      c .node-bit .ensures ∙ sym (law g order.nodes-leaf (plain-generates (at .before)) (leaf-kind (kind (word g)) (omega (arith, at .match .rest)) (omega (arith, at .match .rest, law g order.kind-known))))
+      c .node-bit .ensures ∙ sym (law g order.nodes-leaf (plain-generates (at .before)) (leaf-kind (kind (word g)) (omega (arith, at .match .rest, ap (λ f. f .kind) (plain-node (at .before) .reads))) (omega (arith, at .match .rest, ap (λ f. f .kind) (plain-node (at .before) .reads), law g order.kind-known))))
 
 pub +denied+plain-spec : {M : Type 1} → statement M
 +denied+plain-spec =
@@ -365,8 +371,7 @@ pub +denied+plain-spec : {M : Type 1} → statement M
     denied.Post
     (denied-mul-w t)
     (denied-shared-slice-read-w t)
-    (denied-cast-left t)
-    (denied-cast-right t)
+    (denied-fields-requires t)
     (denied-mul-is-in t)
     (denied-element-copy-out-is-in t)
     (denied-is-in-requires t)
@@ -388,9 +393,7 @@ pub +denied+plain-spec : {M : Type 1} → statement M
     plain.Post
     (plain-mul-w t)
     (plain-shared-slice-read-w t)
-    (plain-cast-left t)
-    (plain-cast-right t)
-    (plain-cast-under t)
+    (plain-fields-requires t)
     (plain-mul-is-in t)
     (plain-element-copy-out-is-in t)
     (plain-is-in-requires t)

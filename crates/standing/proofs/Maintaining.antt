@@ -1,5 +1,5 @@
--- What the proofs of a change's last part use. The rows of an answer stand in a buffer of 2048 numbers, where they are not over 512; rows in their places
--- are compared as the rows themselves; and so the reply is the one that `settled` comes to.
+-- What the proofs of a change's last part use. The rows of an answer stand in a buffer as long as the places of a list, where they are not too many; rows in
+-- their places are compared as the rows themselves; and so the reply is the one that `maintained` comes to.
 use Prim.Native.Nat.{ℕ, _+_, _*_, _^_, _≤_, _<_}
 use native.Mathlib.Omega.{arith}
 use native.Mathlib.Nat.{mul-le-mul}
@@ -27,29 +27,29 @@ use Rattle.answer.specs.declared.Found.{Found}
 use Rattle.answer.specs.Code.Listing.{cut}
 use Rattle.answer.specs.Code.Listing.Cut.{cut-numbers}
 use Rattle.answer.specs.Reply.{result-of, exceeds, found-reply}
-use Rattle.answer.specs.Code.Reply.{Evaluable, evaluated}
+use Rattle.answer.specs.Code.Reply.{Answerable, evaluated}
 use Rattle.standing.specs.declared.Rows.{Rows}
 use Rattle.standing.specs.declared.View.{View}
 use Rattle.standing.specs.declared.Current.{Current}
 use Rattle.standing.specs.declared.Change.{Change}
-use Rattle.standing.specs.View.{lines-held, stored, rows-in, kept, mark}
+use Rattle.standing.specs.View.{max-rows, held-rows, stored, rows-in, kept, mark}
 use Rattle.standing.specs.Code.View.{InOrder}
-use Rattle.standing.specs.View.Laws.{lines-stored, rows-stored, stored-padded}
+use Rattle.standing.specs.View.Laws.{held-rows-stored, rows-stored, stored-padded}
 use Rattle.standing.specs.View.Difference.{padded-ascending, only-in-padded, only-in-width, only-in-fewer}
 use Rattle.standing.specs.View.Layout.{Layout, suited}
 use Rattle.standing.specs.Checks.{is-over, report-checks}
 use Rattle.standing.specs.Change.{joining, leaving, fronted, refusal, turn-reply}
-use Rattle.standing.specs.Code.Change.{current, Suits, settled}
-use Rattle.standing.specs.Change.Turn.{result-wide, result-ascends, report-done, too-many, all-kept, current-over, current-kept, over-is, settled-by}
+use Rattle.standing.specs.Code.Change.{current, Suits, maintained}
+use Rattle.standing.specs.Change.Turn.{result-wide, result-ascends, report-done, too-many, all-kept, current-over, current-kept, over-is, maintained-by}
 
--- ---- at most 512 rows of at most four columns
+-- ---- at most `max-rows` rows of at most four columns
 
 -- They are few numbers.
-pub few-numbers : (n k : ℕ) → n ≤ 512 → k ≤ 4 → n * k ≤ 2048
+pub few-numbers : (n k : ℕ) → n ≤ max-rows → k ≤ 4 → n * k ≤ 4 * max-rows
 few-numbers n k h l = mul-le-mul h l
 
 -- More numbers are more rows.
-many-rows : (n k : ℕ) → k ≤ 4 → 2048 < n * k → 512 < n
+many-rows : (n k : ℕ) → k ≤ 4 → 4 * max-rows < n * k → max-rows < n
 many-rows n k l h = let p : n * k ≤ n * 4 = mul-le-mul (omega arith) l in omega (arith, h, p)
 
 -- ---- the rows found anew
@@ -62,12 +62,12 @@ never-both e d = subst (λ b. T (is-done b)) e (subst⁻¹ (λ b. T (is-done b))
 abbrev Told : ℕ → Result → Found × List ℕ → Type 0
 Told k found r = (r .0 .rows ≡ length (kept found)) × (r .0 .endless ≡ mark found) × (cut k (r .0 .rows) (r .1) ≡ kept found)
 
--- They are refused, being over 512, or told.
+-- They are refused, being too many, or told.
 abbrev Outcome : ℕ → Result → Found × List ℕ → Type 0
-Outcome k found r = ((r .0 .answer ≡ Refused 18 0) × (512 < length (kept found))) ⊎ ((r .0 .answer ≡ Done) × Told k found r)
+Outcome k found r = ((r .0 .answer ≡ Refused 18 0) × (max-rows < length (kept found))) ⊎ ((r .0 .answer ≡ Done) × Told k found r)
 
--- So it is in a buffer of 2048 numbers.
-outcome : (k : ℕ) → k ≤ 4 → (buffer : List ℕ) → length buffer ≡ 2048 → (found : Result) → Width k (kept found) → Outcome k found (found-reply (first-cause (check 18 (when (exceeds (length buffer) k found)) ∷ [])) found buffer)
+-- So it is in a buffer as long as the places of a list.
+outcome : (k : ℕ) → k ≤ 4 → (buffer : List ℕ) → length buffer ≡ 4 * max-rows → (found : Result) → Width k (kept found) → Outcome k found (found-reply (first-cause (check 18 (when (exceeds (length buffer) k found)) ∷ [])) found buffer)
 outcome k few buffer room endless wide = inr (refl, (refl, refl, refl))
 outcome k few buffer room (listed rows) wide = go (reflects-ltb (length buffer) (length rows * k))
   where
@@ -76,11 +76,11 @@ outcome k few buffer room (listed rows) wide = go (reflects-ltb (length buffer) 
     go (fails n) = inr (refl, (refl, refl, cut-numbers k rows (drop (length (numbers rows)) buffer) wide))
 
 -- An accepted query has at most four columns.
-pub few-columns : {s : Store} {q : Query} {cs : Columns} → Evaluable s q cs → cs .count ≤ 4
+pub few-columns : {s : Store} {q : Query} {cs : Columns} → Answerable s q cs → cs .count ≤ 4
 few-columns h = subst⁻¹ (λ c. c .count ≤ 4) (h .columns-are) (h .accepted .packable .few-columns)
 
 -- The reply f to it, and the buffer after it.
-module _ {s : Store} {q : Query} {cs : Columns} (h : Evaluable s q cs) (f : Found) (after : List ℕ) (e : (f, after) ≡ evaluated s q (replicate 2048 0)) where
+module _ {s : Store} {q : Query} {cs : Columns} (h : Answerable s q cs) (f : Found) (after : List ℕ) (e : (f, after) ≡ evaluated s q (replicate (4 * max-rows) 0)) where
   abbrev found : Result
   found = result-of s q
 
@@ -88,9 +88,9 @@ module _ {s : Store} {q : Query} {cs : Columns} (h : Evaluable s q cs) (f : Foun
   k = length (columns (formula q))
 
   reply : Outcome k found (f, after)
-  reply = subst⁻¹ (Outcome k found) e (outcome k (h .accepted .packable .few-columns) (replicate 2048 0) (length-replicate {A = ℕ} 2048 0) found (result-wide s q))
+  reply = subst⁻¹ (Outcome k found) e (outcome k (h .accepted .packable .few-columns) (replicate (4 * max-rows) 0) (length-replicate {A = ℕ} (4 * max-rows) 0) found (result-wide s q))
 
-  -- Refused: they are over 512.
+  -- Refused: they are too many.
   pub find-refused : (n p : ℕ) → f .answer ≡ Refused n p → current found ≡ too-many
   find-refused n p r = go reply
     where
@@ -106,23 +106,23 @@ module _ {s : Store} {q : Query} {cs : Columns} (h : Evaluable s q cs) (f : Foun
         go (inl o) = absurd (never-both (o .0) d)
         go (inr o) = o .1
 
-    -- Told, and yet over 512.
-    pub find-over : 512 < f .rows → current found ≡ too-many
-    find-over l = current-over found (subst (λ n. 512 < n) (all-told .0) l)
+    -- Told, and yet too many.
+    pub find-over : max-rows < f .rows → current found ≡ too-many
+    find-over l = current-over found (subst (λ n. max-rows < n) (all-told .0) l)
 
     -- Told: they stand one after the other in the buffer.
-    pub find-kept : f .rows ≤ 512 → current found ≡ record { over = false; endless = f .endless; rows = stored (cut (cs .count) (f .rows) after) }
+    pub find-kept : f .rows ≤ max-rows → current found ≡ record { over = false; endless = f .endless; rows = stored (cut (cs .count) (f .rows) after) }
     find-kept l =
         let t = all-told in
-        current-kept found (subst (λ n. n ≤ 512) (t .0) l)
+        current-kept found (subst (λ n. n ≤ max-rows) (t .0) l)
         ∙ (λ i. record { over = false; endless = sym (t .1) i; rows = stored (sym (t .2) i) })
         ∙ ap (λ c. record { over = false; endless = f .endless; rows = stored (cut (c .count) (f .rows) after) }) (sym (h .columns-are))
 
 -- ---- the rows of one list only, as they stand in their places
 
--- At most 512 rows xs of k values, and others.
-module _ (k : ℕ) (few : k ≤ 4) (xs ys : List Row) (h : length xs ≤ 512) (wide : Width k xs) where
-  some-fewer : length (only-in xs ys) ≤ 512
+-- At most `max-rows` rows xs of k values, and others.
+module _ (k : ℕ) (few : k ≤ 4) (xs ys : List Row) (h : length xs ≤ max-rows) (wide : Width k xs) where
+  some-fewer : length (only-in xs ys) ≤ max-rows
   some-fewer = omega (arith, h, only-in-fewer xs ys)
 
   -- Found in their places, filled up with zeros.
@@ -133,14 +133,14 @@ module _ (k : ℕ) (few : k ≤ 4) (xs ys : List Row) (h : length xs ≤ 512) (w
       ∙ stored-padded k few (only-in xs ys) some-fewer (only-in-width k xs ys wide)
 
   -- Written out.
-  written : (out : List ℕ) → fronted (map (take k) (lines-held (stored (only-in xs ys)))) out ≡ fronted (only-in xs ys) out
+  written : (out : List ℕ) → fronted (map (take k) (held-rows (stored (only-in xs ys)))) out ≡ fronted (only-in xs ys) out
   written out = ap (λ rows. fronted rows out) (rows-stored k few (only-in xs ys) some-fewer (only-in-width k xs ys wide))
 
 -- ---- a change to the store t, for the list v
 
--- The rows were found anew, and are not over 512.
+-- The rows were found anew, and are not too many.
 pub record Renewed (t : Store) (v : View) (q : Query) (cs : Columns) (new : Current) : Type 0 where
-  pub evaluable : Evaluable t q cs
+  pub answerable : Answerable t q cs
   pub suiting : Suits v q
   pub places : length (v .columns .variables) ≡ 4
   pub opened : v .opening < 2 ^ 64
@@ -156,7 +156,7 @@ module _ {t : Store} {v : View} {q : Query} {cs : Columns} {new : Current} (r : 
 
   -- What is known of both lists.
   few : width ≤ 4
-  few = r .evaluable .accepted .packable .few-columns
+  few = r .answerable .accepted .packable .few-columns
 
   layout : Layout v (columns (formula q))
   layout = suited v (columns (formula q)) (r .places) (r .suiting)
@@ -164,27 +164,27 @@ module _ {t : Store} {v : View} {q : Query} {cs : Columns} {new : Current} (r : 
   under : is-over (length (kept answered)) ≡ false
   under = sym (over-is answered) ∙ ap (λ c. c .over) (sym (r .new-is)) ∙ r .not-over
 
-  few-new : length (kept answered) ≤ 512
-  few-new = ltb-false 512 (length (kept answered)) under
+  few-new : length (kept answered) ≤ max-rows
+  few-new = ltb-false max-rows (length (kept answered)) under
 
-  few-old : length (rows-in v) ≤ 512
-  few-old = subst⁻¹ (λ n. n ≤ 512) (layout .count-is) (layout .few-rows)
+  few-old : length (rows-in v) ≤ max-rows
+  few-old = subst⁻¹ (λ n. n ≤ max-rows) (layout .count-is) (layout .few-rows)
 
   new-kept : new ≡ all-kept answered
   new-kept = r .new-is ∙ current-kept answered few-new
 
-  new-lines : lines-held (new .rows) ≡ map (padded 4 0) (kept answered)
-  new-lines = ap (λ c. lines-held (c .rows)) new-kept ∙ lines-stored width few (kept answered) few-new (result-wide t q)
+  new-held-rows : held-rows (new .rows) ≡ map (padded 4 0) (kept answered)
+  new-held-rows = ap (λ c. held-rows (c .rows)) new-kept ∙ held-rows-stored width few (kept answered) few-new (result-wide t q)
 
   -- Both lists are in order.
   pub new-in-order : InOrder (new .rows)
   new-in-order = (
-    subst⁻¹ (λ c. c .rows .count ≤ 512) new-kept few-new,
-    subst⁻¹ (Ascending row-below) new-lines (padded-ascending width (result-wide t q) (result-ascends t q)),
+    subst⁻¹ (λ c. c .rows .count ≤ max-rows) new-kept few-new,
+    subst⁻¹ (Ascending row-below) new-held-rows (padded-ascending width (result-wide t q) (result-ascends t q)),
   )
 
   pub old-in-order : InOrder (v .rows)
-  old-in-order = (layout .few-rows, subst⁻¹ (Ascending row-below) (layout .lines-are) (padded-ascending width (layout .wide) (layout .ascending)))
+  old-in-order = (layout .few-rows, subst⁻¹ (Ascending row-below) (layout .held-rows-are) (padded-ascending width (layout .wide) (layout .ascending)))
 
   -- The reply with these columns, rows found, and rows that joined and left.
   abbrev turned : Columns → Current → Rows → Rows → Change
@@ -198,37 +198,37 @@ module _ {t : Store} {v : View} {q : Query} {cs : Columns} {new : Current} (r : 
       }
 
   -- The rows that joined and left, in their places.
-  module _ {added gone : Rows} (p : added ≡ stored (only-in (lines-held (new .rows)) (lines-held (v .rows)))) (g : gone ≡ stored (only-in (lines-held (v .rows)) (lines-held (new .rows)))) where
+  module _ {added gone : Rows} (p : added ≡ stored (only-in (held-rows (new .rows)) (held-rows (v .rows)))) (g : gone ≡ stored (only-in (held-rows (v .rows)) (held-rows (new .rows)))) where
     added-is : added ≡ stored (joining v answered)
-    added-is = p ∙ compared width few (kept answered) (rows-in v) few-new (result-wide t q) (layout .wide) new-lines (layout .lines-are)
+    added-is = p ∙ compared width few (kept answered) (rows-in v) few-new (result-wide t q) (layout .wide) new-held-rows (layout .held-rows-are)
 
     gone-is : gone ≡ stored (leaving v answered)
-    gone-is = g ∙ compared width few (rows-in v) (kept answered) few-old (layout .wide) (result-wide t q) (layout .lines-are) new-lines
+    gone-is = g ∙ compared width few (rows-in v) (kept answered) few-old (layout .wide) (result-wide t q) (layout .held-rows-are) new-held-rows
 
-    -- They are at most 512.
-    pub few-added : added .count ≤ 512
-    few-added = subst⁻¹ (λ c. c .count ≤ 512) added-is (some-fewer width few (kept answered) (rows-in v) few-new (result-wide t q))
+    -- They are at most `max-rows`.
+    pub few-added : added .count ≤ max-rows
+    few-added = subst⁻¹ (λ c. c .count ≤ max-rows) added-is (some-fewer width few (kept answered) (rows-in v) few-new (result-wide t q))
 
-    pub few-gone : gone .count ≤ 512
-    few-gone = subst⁻¹ (λ c. c .count ≤ 512) gone-is (some-fewer width few (rows-in v) (kept answered) few-old (layout .wide))
+    pub few-gone : gone .count ≤ max-rows
+    few-gone = subst⁻¹ (λ c. c .count ≤ max-rows) gone-is (some-fewer width few (rows-in v) (kept answered) few-old (layout .wide))
 
     -- Written out.
-    joined-written : (out : List ℕ) → fronted (map (take (cs .count)) (lines-held added)) out ≡ fronted (joining v answered) out
-    joined-written out = (λ i. fronted (map (take (r .evaluable .columns-are i .count)) (lines-held (added-is i))) out) ∙ written width few (kept answered) (rows-in v) few-new (result-wide t q) out
+    joined-written : (out : List ℕ) → fronted (map (take (cs .count)) (held-rows added)) out ≡ fronted (joining v answered) out
+    joined-written out = (λ i. fronted (map (take (r .answerable .columns-are i .count)) (held-rows (added-is i))) out) ∙ written width few (kept answered) (rows-in v) few-new (result-wide t q) out
 
-    left-written : (out : List ℕ) → fronted (map (take (cs .count)) (lines-held gone)) out ≡ fronted (leaving v answered) out
-    left-written out = (λ i. fronted (map (take (r .evaluable .columns-are i .count)) (lines-held (gone-is i))) out) ∙ written width few (rows-in v) (kept answered) few-old (layout .wide) out
+    left-written : (out : List ℕ) → fronted (map (take (cs .count)) (held-rows gone)) out ≡ fronted (leaving v answered) out
+    left-written out = (λ i. fronted (map (take (r .answerable .columns-are i .count)) (held-rows (gone-is i))) out) ∙ written width few (rows-in v) (kept answered) few-old (layout .wide) out
 
     -- The reply, by the first of the causes 17 to 19.
     module _ (s : Store) (first second : List ℕ) (a : Answer) (e : a ≡ first-cause (report-checks false ((v .joined + added .count) ∷ (v .left + gone .count) ∷ []) (cs .count) (added .count) (gone .count) (length first) (length second))) where
-      replied : (b : Answer) → a ≡ b → settled s t v q first second ≡ turn-reply b s t v (columns (formula q)) answered first second
+      replied : (b : Answer) → a ≡ b → maintained s t v q first second ≡ turn-reply b s t v (columns (formula q)) answered first second
       replied b d =
-          settled-by s t v q first second under (lt-leb (2 ^ 64) (v .opening) (r .opened)) b
+          maintained-by s t v q first second under (lt-leb (2 ^ 64) (v .opening) (r .opened)) b
           (sym d ∙ e ∙ (λ i. let n : ℕ = added-is i .count in let m : ℕ = gone-is i .count in
-          first-cause (report-checks false ((v .joined + n) ∷ (v .left + m) ∷ []) (r .evaluable .columns-are i .count) n m (length first) (length second))))
+          first-cause (report-checks false ((v .joined + n) ∷ (v .left + m) ∷ []) (r .answerable .columns-are i .count) n m (length first) (length second))))
 
       -- One is met.
-      pub turn-refused : (n p : ℕ) → a ≡ Refused n p → (refusal n p s v, (first, second)) ≡ settled s t v q first second
+      pub turn-refused : (n p : ℕ) → a ≡ Refused n p → (refusal n p s v, (first, second)) ≡ maintained s t v q first second
       turn-refused n p d = sym (replied (Refused n p) d)
 
       -- None is met.
@@ -239,9 +239,9 @@ module _ {t : Store} {v : View} {q : Query} {cs : Columns} {new : Current} (r : 
 
         -- The rows are written, and the list holds those found.
         pub turn-done : {first-after second-after : List ℕ} →
-            first-after ≡ fronted (map (take (cs .count)) (lines-held added)) first →
-            second-after ≡ fronted (map (take (cs .count)) (lines-held gone)) second →
-            (turned cs new added gone, (first-after, second-after)) ≡ settled s t v q first second
+            first-after ≡ fronted (map (take (cs .count)) (held-rows added)) first →
+            second-after ≡ fronted (map (take (cs .count)) (held-rows gone)) second →
+            (turned cs new added gone, (first-after, second-after)) ≡ maintained s t v q first second
         turn-done x y =
-            (λ i. (turned (r .evaluable .columns-are i) (new-kept i) (added-is i) (gone-is i), ((x ∙ joined-written first) i, (y ∙ left-written second) i)))
+            (λ i. (turned (r .answerable .columns-are i) (new-kept i) (added-is i) (gone-is i), ((x ∙ joined-written first) i, (y ∙ left-written second) i)))
             ∙ sym (replied Done d)
