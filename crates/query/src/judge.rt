@@ -2,6 +2,7 @@
 // follows the header asks for counts in range, which causes 4 and 5 have just judged.
 use crate::CONSTANTS;
 use crate::NODES;
+use crate::fault;
 use crate::node;
 use crate::unpack;
 use causes::Answer;
@@ -111,9 +112,9 @@ fn has_fault<'a>(
     let all: &[u32] = nodes;
     let w = all[i];
     match cause {
-        6 => node::is_malformed(w),
+        6 => fault::is_malformed(w),
         7 => {
-            if node::reaches(w, i as u32) {
+            if fault::reaches(w, i) {
                 return true;
             }
             if i + 1 == n {
@@ -121,8 +122,8 @@ fn has_fault<'a>(
             }
             counts[i] != 1
         }
-        8 => node::has_stray(constants as u32, w),
-        9 => node::is_mismatched(widths, w),
+        8 => fault::has_stray(constants as u32, w),
+        9 => fault::is_mismatched(widths, w),
         _ => false,
     }
 }

@@ -1,15 +1,13 @@
-// A packed node: its fields, its word, and its faults (causes 6 to 9). A node is a 32-bit number whose first 3 bits are its kind; its fields follow, most
-// significant first. Only this module knows where they stand: everybody else reads a node by `fields` and writes one by the functions of its kind.
-use causes::RELATIONS;
+// A packed node: its fields, its word, and tests of its terms. A node is a 32-bit number whose first 3 bits are its kind; its fields follow, most significant
+// first. Only this module knows where they stand: everybody else reads a node by `fields` and writes one by the functions of its kind.
 ghost use mathlib.Core.Path.{_≡_};
 ghost use Prim.Native.Nat.{_≤_, _<_};
 ghost use mathlib.Core.List.{[], _∷_};
-ghost use lib.ListN.{take, drop};
-ghost use lib.Dec.{leb};
+ghost use lib.ListN.{take};
 ghost use Rattle.calculus.specs.Sets.{any-of};
-ghost use Rattle.query.specs.Nodes.{nonzero, children, malformed, is-stray, strays, mismatched, not-word, join-word, exists-word};
+ghost use Rattle.query.specs.Nodes.{not-word, join-word, exists-word};
 ghost use Rattle.query.specs.Reading.{max-nodes};
-ghost use Rattle.query.specs.Code.Fields.{NodeOf, same};
+ghost use Rattle.query.specs.Code.Fields.{NodeOf, rest-of, same};
 
 // The words of the truth values.
 pub const FALSE: u32 = 0;
@@ -45,6 +43,22 @@ pub fn fields(w: u32) -> Node
         left: (w / 8388608 % 64) as usize,
         right: (w / 131072 % 64) as usize,
         under: (w / 524288 % 64) as usize,
+    }
+}
+
+// The bits past the fields of a node's kind; none where there is no such kind.
+pub fn rest(w: u32) -> u32
+    ensures { λ r. ⌜ r ≡ rest-of w ⌝ }
+{
+    let kind = w / 536870912;
+    match kind {
+        0 => w % 268435456,
+        1 => w % 4,
+        2 => w % 1048576,
+        3 => w % 8388608,
+        4 | 5 => w % 131072,
+        6 => w % 524288,
+        _ => 0,
     }
 }
 
@@ -98,119 +112,4 @@ pub fn some_of(count: u32, a: bool, b: bool, c: bool, d: bool) -> bool
         return false;
     }
     d
-}
-
-// Whether one of the terms past the count is set.
-fn set_past(count: u32, a: u32, b: u32, c: u32, d: u32) -> bool
-    ensures { λ r. ⌜ r ≡ any-of nonzero (drop count (a ∷ b ∷ c ∷ d ∷ [])) ⌝ }
-{
-    if 3 < count {
-        return false;
-    }
-    if d != 0 {
-        return true;
-    }
-    if count == 3 {
-        return false;
-    }
-    if c != 0 {
-        return true;
-    }
-    if count == 2 {
-        return false;
-    }
-    if b != 0 {
-        return true;
-    }
-    if count == 1 {
-        return false;
-    }
-    a != 0
-}
-
-// Cause 6: kind 7, or a zero bit or an unused term set.
-pub fn is_malformed(w: u32) -> bool
-    ensures { λ r. ⌜ r ≡ malformed w ⌝ }
-{
-    let kind = w / 536870912;
-    match kind {
-        0 => w % 268435456 != 0,
-        1 => {
-            if w % 4 != 0 {
-                return true;
-            }
-            set_past(
-                w / 4194304 % 8,
-                w / 131072 % 32,
-                w / 4096 % 32,
-                w / 128 % 32,
-                w / 4 % 32,
-            )
-        }
-        2 => w % 1048576 != 0,
-        3 => w % 8388608 != 0,
-        4 | 5 => w % 131072 != 0,
-        6 => w % 524288 != 0,
-        _ => true,
-    }
-}
-
-// Whether a child of the node is not below i.
-pub fn reaches(w: u32, i: u32) -> bool
-    ensures { λ r. ⌜ r ≡ any-of (leb i) (children w) ⌝ }
-{
-    let kind = w / 536870912;
-    let left = w / 8388608 % 64;
-    let right = w / 131072 % 64;
-    let under = w / 524288 % 64;
-    match kind {
-        3 => i <= left,
-        4 | 5 => i <= left || i <= right,
-        6 => i <= under,
-        _ => false,
-    }
-}
-
-// Whether a term is a constant at or past the count.
-fn is_past(constants: u32, term: u32) -> bool
-    ensures { λ r. ⌜ r ≡ is-stray constants term ⌝ }
-{
-    if term < 16 {
-        return false;
-    }
-    constants <= term % 16
-}
-
-// Cause 8: a constant's place at or past the count.
-pub fn has_stray(constants: u32, w: u32) -> bool
-    ensures { λ r. ⌜ r ≡ strays constants w ⌝ }
-{
-    let kind = w / 536870912;
-    match kind {
-        1 => some_of(
-            w / 4194304 % 8,
-            is_past(constants, w / 131072 % 32),
-            is_past(constants, w / 4096 % 32),
-            is_past(constants, w / 128 % 32),
-            is_past(constants, w / 4 % 32),
-        ),
-        2 => is_past(constants, w / 1048576 % 32),
-        _ => false,
-    }
-}
-
-// Cause 9: a relation absent, or a term count that is not its width.
-pub fn is_mismatched(widths: &[u8; RELATIONS], w: u32) -> bool
-    ensures { λ r. ⌜ r ≡ mismatched (now (widths .entry)) w ⌝ }
-{
-    let kind = w / 536870912;
-    let relation = (w / 33554432 % 16) as usize;
-    let width = crate::unpack::wide(widths[relation]);
-    if kind != 1 {
-        return false;
-    }
-    if width == 0 {
-        return true;
-    }
-    w / 4194304 % 8 != width
 }

@@ -18,7 +18,7 @@ use Rattle.causes.specs.declared.Answer.the-variants.{Done}
 use Rattle.causes.specs.Causes.{widths-fit}
 use Rattle.causes.specs.Causes.Laws.{width-fits}
 use Rattle.query.specs.Nodes.{kind, relation, term-count, terms, variable, equal-term, left, right, under, nonzero, malformed, mismatched, truth-rest, record-rest, equality-rest, not-rest, join-rest, exists-rest, record-word, equality-word, not-word, join-word, exists-word}
-use Rattle.query.specs.Nodes.Words.{term-at, truth-of-fields, record-of-fields, equality-of-fields, not-of-fields, join-of-fields, exists-of-fields, equal-term-small, terms-small}
+use Rattle.query.specs.Nodes.Words.{term-at, truth-of-fields, record-of-fields, equality-of-fields, not-of-fields, join-of-fields, exists-of-fields, equal-term-small, term-at-small}
 use Rattle.query.specs.Decoding.{term-of, root}
 use Rattle.query.specs.Reading.{constants-of, nodes-of, read-of, pool, formula, Bytes}
 use Rattle.query.specs.Packing.{term-code, code-at, words, packed-bytes, pack, InOrder}
@@ -66,8 +66,8 @@ pub record-again : (w : ℕ) → kind w ≡ 1 → term-count w ≤ 4 → (nonzer
 record-again w e n f =
     let z = or-fails (nonzero (record-rest w)) (any-of nonzero (drop (term-count w) (terms w))) f in
     let l : length (terms-in w) ≡ term-count w = length-map (take (term-count w) (terms w)) term-of ∙ length-take-le (term-count w) (terms w) n in
-    let s = terms-small w in
-    let c = codes-again (term-count w) (term-at w 0) (term-at w 1) (term-at w 2) (term-at w 3) n (s .0) (s .1) (s .2) (s .3) (z .1) in
+    let s = term-at-small w in
+    let c = codes-again (term-count w) (term-at w 0) (term-at w 1) (term-at w 2) (term-at w 3) n (s 0) (s 1) (s 2) (s 3) (z .1) in
     record-of-fields w e (nonzero-false (record-rest w) (z .0)) ∙ (λ i. record-word (relation w) (sym l i) (c .0 i) (c .1 i) (c .2 i) (c .3 i))
 
 not-again : (w : ℕ) {c : ℕ} → kind w ≡ 3 → left w ≡ c → malformed w ≡ false → w ≡ not-word c

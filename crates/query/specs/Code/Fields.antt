@@ -3,7 +3,7 @@ use Prim.Native.Nat.{ℕ, _<_}
 use mathlib.Core.Path.{_≡_}
 use mathlib.Core.Bool.{Bool}
 use Rattle.query.specs.declared.node.Node.{Node}
-use Rattle.query.specs.Nodes.{kind, truth-bit, relation, term-count, terms, variable, equal-term, left, right, under}
+use Rattle.query.specs.Nodes.{kind, by-kind, truth-bit, relation, term-count, terms, variable, equal-term, left, right, under, truth-rest, record-rest, equality-rest, not-rest, join-rest, exists-rest}
 use Rattle.query.specs.Reading.{max-nodes}
 pub mod Laws
 
@@ -30,6 +30,10 @@ pub record NodeOf (w : ℕ) (f : Node) : Type 0 where
   pub under-fits : f .under < max-nodes
   pub variable-fits : f .variable < 16
   pub relation-fits : f .relation < 16
+
+-- The bits past the fields of a node's kind.
+abbrev pub rest-of : ℕ → ℕ
+rest-of w = by-kind (truth-rest w) (record-rest w) (equality-rest w) (not-rest w) (join-rest w) (join-rest w) (exists-rest w) 0 w
 
 -- A test as it is.
 abbrev pub same : Bool → Bool

@@ -15,13 +15,13 @@ use borrow.Author.Tests.{eq-eqb, ne-eqb}
 use Rattle.calculus.specs.Sets.{In, here, there, union-of}
 use Rattle.calculus.specs.Lists.{tabulate}
 use Rattle.calculus.specs.Lists.Laws.{length-tabulate, getD-tabulate, tabulate-of}
-use Rattle.query.specs.Nodes.{kind, by-kind, nonzero, malformed, join-rest, left, right, under, children, term-count, terms, equal-term, used-terms, occurrences, uses}
+use Rattle.query.specs.Nodes.{kind, by-kind, malformed, left, right, under, children, term-count, terms, equal-term, used-terms, occurrences, uses}
 use Rattle.query.specs.Code.Judging.{counted-with}
 use Rattle.query.specs.Reading.{max-nodes}
 
 -- ---- the children, by kind
 
-two-or : (k : ℕ) → 4 ≤ k → k ≤ 5 → (k ≡ 4) ⊎ (k ≡ 5)
+pub two-or : (k : ℕ) → 4 ≤ k → k ≤ 5 → (k ≡ 4) ⊎ (k ≡ 5)
 two-or k h l = go (decLt k 5)
   where
     go : Dec (k < 5) → (k ≡ 4) ⊎ (k ≡ 5)
@@ -40,9 +40,6 @@ children-two w h l = ⊎-elim (λ e. rw e) (λ e. rw e) (two-or (kind w) h l)
 
 pub both-children : (w : ℕ) → (kind w ≡ 4) ⊎ (kind w ≡ 5) → In (left w) (children w) × In (right w) (children w)
 both-children w k = ⊎-elim (λ e. rw e (here refl, there (here refl))) (λ e. rw e (here refl, there (here refl))) k
-
-pub malformed-two : (w : ℕ) → 4 ≤ kind w → kind w ≤ 5 → malformed w ≡ nonzero (join-rest w)
-malformed-two w h l = ⊎-elim (λ e. rw e) (λ e. rw e) (two-or (kind w) h l)
 
 -- A kind past 6.
 pub malformed-kind : (w : ℕ) → 6 ≤ kind w → kind w ≢ 6 → malformed w ≡ true

@@ -1,5 +1,5 @@
 -- The words of nodes read back field by field, and a node's word from its fields. Nodes.antt and this file alone know at which bits a field stands.
-use Prim.Native.Nat.{ℕ, _+_, _*_, _/_, _%_, _<_}
+use Prim.Native.Nat.{ℕ, zero, suc, _+_, _*_, _/_, _%_, _<_}
 use native.Mathlib.Decide.{decLt}
 use native.Mathlib.Omega.{arith}
 use mathlib.Core.Path.{_≡_, refl, subst⁻¹}
@@ -8,17 +8,6 @@ use lib.ListN.{getD}
 use lib.Dec.{eqb}
 use Rattle.query.specs.Nodes.{kind, truth-bit, relation, term-count, terms, variable, equal-term, left, right, under, truth-rest, record-rest, equality-rest, not-rest, join-rest, exists-rest, truth-word, record-word, equality-word, not-word, join-word, exists-word}
 use Rattle.query.specs.Reading.{max-nodes}
-
--- ---- a child field is a node's number
-
-pub left-fits : (w : ℕ) → left w < max-nodes
-left-fits w = omega arith
-
-pub right-fits : (w : ℕ) → right w < max-nodes
-right-fits w = omega arith
-
-pub under-fits : (w : ℕ) → under w < max-nodes
-under-fits w = omega arith
 
 -- ---- words read back
 
@@ -94,5 +83,9 @@ exists-of-fields w e z = omega arith
 pub equal-term-small : (w : ℕ) → equal-term w < 32
 equal-term-small w = omega arith
 
-pub terms-small : (w : ℕ) → (term-at w 0 < 32) × (term-at w 1 < 32) × (term-at w 2 < 32) × (term-at w 3 < 32)
-terms-small w = (omega arith, omega arith, omega arith, omega arith)
+pub term-at-small : (w j : ℕ) → term-at w j < 32
+term-at-small w zero = omega arith
+term-at-small w (suc zero) = omega arith
+term-at-small w (suc (suc zero)) = omega arith
+term-at-small w (suc (suc (suc zero))) = omega arith
+term-at-small w (suc (suc (suc (suc j)))) = omega arith

@@ -41,9 +41,6 @@ shared-slice-read-w c = search needs
 is-malformed-requires : tie.Need-is-malformed-requires
 is-malformed-requires c κs = search needs
 
-cast-reaches : tie.Need-cast-reaches
-cast-reaches c = search needs
-
 reaches-requires : tie.Need-reaches-requires
 reaches-requires c κs = search needs
 
@@ -107,7 +104,6 @@ has-fault-spec =
     mul-w
     shared-slice-read-w
     is-malformed-requires
-    cast-reaches
     reaches-requires
     returns
     add-if2

@@ -1,16 +1,17 @@
 -- Laws of a node's fields as read: tests of its terms, and what is known of it from them.
-use Prim.Native.Nat.{ℕ, zero, suc, _≤_}
+use Prim.Native.Nat.{ℕ, zero, suc, _-_, _≤_, _<_}
 use native.Mathlib.Omega.{arith}
 use mathlib.Core.Path.{_≡_, refl, sym, ap, _∙_}
-use mathlib.Core.Logic.{_≢_}
-use mathlib.Core.Bool.{Bool, _||_}
+use mathlib.Core.Logic.{_≢_, ⊎-elim}
+use mathlib.Core.Bool.{Bool, true, _&&_, _||_, or-false}
 use mathlib.Core.List.{List, [], _∷_, map}
-use lib.ListN.{take}
+use lib.ListN.{getD, take, drop}
+use lib.Dec.{eqb}
 use Rattle.calculus.specs.Sets.{any-of}
 use Rattle.query.specs.declared.node.Node.{Node}
-use Rattle.query.specs.Nodes.{kind, children}
-use Rattle.query.specs.Nodes.Laws.{children-not, children-exists, children-two, children-none}
-use Rattle.query.specs.Code.Fields.{NodeOf, same}
+use Rattle.query.specs.Nodes.{kind, term-count, terms, children, nonzero, malformed, truth-rest, record-rest, equality-rest, not-rest, join-rest, exists-rest}
+use Rattle.query.specs.Nodes.Laws.{two-or, children-not, children-exists, children-two, children-none}
+use Rattle.query.specs.Code.Fields.{NodeOf, rest-of, same}
 
 -- ---- tests of terms
 
@@ -19,6 +20,29 @@ pub some-tested : {A : Type 0} (f : A → Bool) (n : ℕ) (xs : List A) → any-
 some-tested f zero xs = refl
 some-tested f (suc n) [] = refl
 some-tested f (suc n) (x ∷ xs) = λ i. f x || some-tested f n xs i
+
+-- ---- the bits past the fields
+
+pub rest-two : (w : ℕ) → 4 ≤ kind w → kind w ≤ 5 → rest-of w ≡ join-rest w
+rest-two w h l = ⊎-elim (λ e. rw e) (λ e. rw e) (two-or (kind w) h l)
+
+pub rest-none : (w : ℕ) → 6 ≤ kind w → kind w ≢ 6 → rest-of w ≡ 0
+rest-none w h n = let e : kind w ≡ suc (suc (suc (suc (suc (suc (suc (kind w - 7))))))) = omega arith in rw e
+
+-- Of a known kind a node is malformed where a bit past its fields is set, or it is a record with an unused term set.
+by-rest : (k a b c d e f g : ℕ) (x : Bool) → k < 7
+    → getD (nonzero a ∷ (nonzero b || x) ∷ nonzero c ∷ nonzero d ∷ nonzero e ∷ nonzero f ∷ nonzero g ∷ []) k true ≡ (nonzero (getD (a ∷ b ∷ c ∷ d ∷ e ∷ f ∷ g ∷ []) k 0) || (eqb k 1 && x))
+by-rest zero a b c d e f g x h = sym (or-false (nonzero a))
+by-rest (suc zero) a b c d e f g x h = refl
+by-rest (suc (suc zero)) a b c d e f g x h = sym (or-false (nonzero c))
+by-rest (suc (suc (suc zero))) a b c d e f g x h = sym (or-false (nonzero d))
+by-rest (suc (suc (suc (suc zero)))) a b c d e f g x h = sym (or-false (nonzero e))
+by-rest (suc (suc (suc (suc (suc zero))))) a b c d e f g x h = sym (or-false (nonzero f))
+by-rest (suc (suc (suc (suc (suc (suc zero)))))) a b c d e f g x h = sym (or-false (nonzero g))
+by-rest (suc (suc (suc (suc (suc (suc (suc k))))))) a b c d e f g x h = absurd (omega arith)
+
+pub malformed-rest : (w : ℕ) → kind w < 7 → malformed w ≡ (nonzero (rest-of w) || (eqb (kind w) 1 && any-of nonzero (drop (term-count w) (terms w))))
+malformed-rest w = by-rest (kind w) (truth-rest w) (record-rest w) (equality-rest w) (not-rest w) (join-rest w) (join-rest w) (exists-rest w) (any-of nonzero (drop (term-count w) (terms w)))
 
 -- ---- what is known of the fields read, said of the node
 

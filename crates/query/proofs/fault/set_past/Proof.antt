@@ -1,4 +1,4 @@
--- `query::node::set_past` meets its contract. The terms are read from the last on: one that is set decides; where the count begins, none after it was.
+-- `query::fault::set_past` meets its contract. The terms are read from the last on: one that is set decides; where the count begins, none after it was.
 use native.Mathlib.Omega.{arith}
 use borrow.Author.Tests.{ne-eqb}
 use mathlib.Core.Path.{_≡_, sym}
@@ -7,8 +7,8 @@ use mathlib.Core.List.{[], _∷_}
 use lib.ListN.{drop-of-length-le}
 use Rattle.calculus.specs.Lists.Laws.{any-drop-at}
 use Rattle.query.specs.Nodes.{nonzero}
-use Rattle.query.proofs.node.set_past.Statement.{statement}
-use Rattle.query.proofs.node.set_past.Tie as tie
+use Rattle.query.proofs.fault.set_past.Statement.{statement}
+use Rattle.query.proofs.fault.set_past.Tie as tie
 
 returns : tie.Need-returns
 returns c =

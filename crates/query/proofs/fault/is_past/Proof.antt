@@ -1,7 +1,7 @@
--- `query::node::is_past` meets its contract: its two tests are those of the contract.
+-- `query::fault::is_past` meets its contract: its two tests are those of the contract.
 use borrow.Author.Tests.{le-leb, lt-leb}
-use Rattle.query.proofs.node.is_past.Statement.{statement}
-use Rattle.query.proofs.node.is_past.Tie as tie
+use Rattle.query.proofs.fault.is_past.Statement.{statement}
+use Rattle.query.proofs.fault.is_past.Tie as tie
 
 returns : tie.Need-returns
 returns c = rw (lt-leb 16 (c .before .args .term) (c .if1 .taken))
