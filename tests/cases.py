@@ -501,6 +501,7 @@ def named_answer_cases():
     a("63 nodes", chain(63), [[7]], True)
     a("16 constants", joined_by(either, [equality(3, 16 + i) for i in range(16)]), [[i] for i in range(1, 17)], True, range(16, 0, -1))
     a("4 free variables", [record(3, 3, 15, 7, 11)], [[1, 3, 4, 2]], True, (), [(3, 1, 2, 3, 4)], [0, 0, 0, 4] + [0] * 12)
+    a("0(x) and 2(y,z,w)", [record(0, 0), record(2, 1, 2, 3), both(0, 1)], [[9, 5, 6, 7]], True, (), [(0, 9, 0, 0, 0), (2, 5, 6, 7, 0)], [1, 0, 3] + [0] * 13)
 
     def r(name, expect, data, s=None, given=THREE, safe=False, room=9):
         answer_case(name, Store(WIDTHS_S, given) if s is None else s, given, data, room, safe, f" refused {expect}")

@@ -34,7 +34,7 @@ pub struct Input {
     pub columns: Columns,
 }
 
-// An input as judged: the store of its records, and the verdict on its query, with the query's form and columns; or the verdict's refusal.
+// An input as judged: the store of its records, and the verdict on its query, with the query's form and columns; or the verdict's refusal, and no records.
 pub struct Assessment {
     pub store: Store,
     pub verdict: Verdict,
@@ -125,7 +125,7 @@ fn assess(bytes: &[u8]) -> Assessment
     }
 }
 
-// The verdict on the query of an input: the causes of `assess`.
+// The verdict on the query of an input: causes 2, then 1 and 3 to 10, then 13 and 15.
 pub fn judge(bytes: &[u8]) -> Verdict
     ensures { λ v. ⌜ v ≡ judged-of (now (bytes .entry)) ⌝ }
 {

@@ -72,7 +72,7 @@ equality-rest w = w % 1048576
 abbrev pub not-rest : ℕ → ℕ
 not-rest w = w % 8388608
 
--- Of an and, an or.
+-- An and or an or: the bits past both children.
 abbrev pub join-rest : ℕ → ℕ
 join-rest w = w % 131072
 

@@ -7,14 +7,15 @@ ghost use lib.ListN.{take};
 ghost use Rattle.calculus.specs.Sets.{any-of};
 ghost use Rattle.query.specs.Nodes.{not-word, join-word, exists-word};
 ghost use Rattle.query.specs.Reading.{max-nodes};
-ghost use Rattle.query.specs.Code.Fields.{NodeOf, rest-of, same};
+ghost use Rattle.query.specs.Code.Fields.{NodeOf, rest-of, itself};
 
 // The words of the truth values.
 pub const FALSE: u32 = 0;
 
 pub const TRUE: u32 = 268435456;
 
-// The fields of a node, under their names in specs/Nodes. A node has those of its kind; the others are what stands at their bits.
+// The fields of a node: `truth` is its truth bit, `count` and `terms` are a record's, `term` is an equality's. A node has those of its kind; the others are what
+// stands at their bits.
 pub struct Node {
     pub kind: u32,
     pub truth: u32,
@@ -88,7 +89,7 @@ pub fn existence(variable: u32, child: usize) -> u32
 
 // Whether one of the first count of four tests is true.
 pub fn some_of(count: u32, a: bool, b: bool, c: bool, d: bool) -> bool
-    ensures { λ r. ⌜ r ≡ any-of same (take count (a ∷ b ∷ c ∷ d ∷ [])) ⌝ }
+    ensures { λ r. ⌜ r ≡ any-of itself (take count (a ∷ b ∷ c ∷ d ∷ [])) ⌝ }
 {
     if count == 0 {
         return false;

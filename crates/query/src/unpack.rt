@@ -1,5 +1,5 @@
 // Counts and words out of packed bytes, high byte first. For a reader of bytes that has judged their length first: it asks for bytes that are there, so that
-// nothing is read past the end. `word` and `wide` are also for the crate that reads the packed input.
+// nothing is read past the end. `word` and `wide` are also for crates above.
 ghost use mathlib.Core.Path.{_≡_};
 ghost use mathlib.Core.List.{_++_};
 ghost use Prim.Native.Nat.{_+_, _*_, _≤_, _<_};

@@ -1,4 +1,4 @@
-// Sets of nodes and variables as numbers: number 0 is the highest bit. A node's bit is asked of a node of a form only, so of a number below 64.
+// Sets of nodes and variables as numbers: number 0 is the highest bit. A node's bit is asked of a node of a form only, so of a number below `max-nodes`.
 ghost use mathlib.Core.Path.{_≡_};
 ghost use mathlib.Core.List.{[], _∷_};
 ghost use Prim.Native.Nat.{_<_};

@@ -47,7 +47,7 @@ refused-requires c κs =
     let g = a .before .before .before .before .before .before in
     let r = g .before .before .before in
     let s = r .before .before .before .before .before .before .args in
-    omega (arith, change-at (g .change .ensures) _ _ (a .answer .given .1), change-place (kind-of (s .removal)) (r .before .before .store-of .result) (r .before .view-of .result) (s .bytes .now) (r .record-of .result) (s .joined .now) (s .left .now))
+    change-at (g .change .ensures) (change-place (kind-of (s .removal)) (r .before .before .store-of .result) (r .before .view-of .result) (s .bytes .now) (r .record-of .result) (s .joined .now) (s .left .now)) _ _ (a .answer .given .1)
 
 same-length : tie.Need-same-length
 same-length c = search needs

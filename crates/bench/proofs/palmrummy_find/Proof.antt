@@ -1,5 +1,4 @@
 -- The entry meets its contract: what was found, as one number.
-use native.Mathlib.Omega.{arith}
 use borrow.Author.Needs.{needs}
 use mathlib.Core.Path.{_∙_}
 use Rattle.answer.specs.Reply.Places.{found-place}
@@ -19,7 +18,7 @@ enum-known-answer c = search needs
 refused-requires : tie.Need-refused-requires
 refused-requires c κs =
     let a = c .before in let f = a .before .before .before .before in let s = f .before .before .before .before .before .args in
-    omega (arith, found-at (f .find .ensures) _ _ (a .answer .given .1), found-place (f .before .before .store-of .result) (s .bytes .now) (s .wanted) (s .out .now))
+    found-at (f .find .ensures) (found-place (f .before .before .store-of .result) (s .bytes .now) (s .wanted) (s .out .now)) _ _ (a .answer .given .1)
 
 same-length : tie.Need-same-length
 same-length c = search needs

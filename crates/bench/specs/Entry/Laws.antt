@@ -1,11 +1,13 @@
 -- The numbers returned, by what was found and by what a change told: the rows that joined and left are at most `max-rows` each, since the rows found anew
 -- passed cause 17, and those held before are in the layout.
-use Prim.Native.Nat.{ℕ, _+_, _*_}
-use mathlib.Core.Path.{_≡_, sym, ap, _∙_}
+use Prim.Native.Nat.{ℕ, _+_, _*_, _<_}
+use mathlib.Core.Path.{_≡_, sym, ap, subst⁻¹, _∙_}
 use mathlib.Core.Bool.{Bool, true, false, cond}
 use mathlib.Core.List.{List}
 use Rattle.causes.specs.declared.Answer.the-variants.{Done, Refused}
 use Rattle.causes.specs.Causes.{place}
+use Rattle.causes.specs.Causes.Laws.{refused-place}
+use Rattle.query.specs.Reading.{max-nodes}
 use Rattle.tables.specs.declared.Record.{Record}
 use Rattle.tables.specs.declared.Store.{Store}
 use Rattle.answer.specs.declared.Found.{Found}
@@ -25,8 +27,8 @@ module _ {f : Found} {out : List ℕ} {x : Found × List ℕ} (e : (f, out) ≡ 
   coded-refused n p m a r = ap (λ k. (k, out)) r ∙ ap (λ b. (code b (f .endless) (f .rows), out)) (sym a) ∙ ap coded e
 
   -- A refusal's place is that of the reply.
-  pub found-at : (n p : ℕ) → f .answer ≡ Refused n p → p ≡ place (x .0 .answer)
-  found-at n p a = ap place (sym a) ∙ ap (λ q. place (q .0 .answer)) e
+  pub found-at : place (x .0 .answer) < max-nodes → (n p : ℕ) → f .answer ≡ Refused n p → p < max-nodes
+  found-at h n p a = refused-place (f .answer) n p a (subst⁻¹ (λ q. place (q .0 .answer) < max-nodes) e h)
 
   pub coded-endless : f .answer ≡ Done → f .endless ≡ true → (9223372036854775808, out) ≡ coded x
   coded-endless a b = ap (λ c. (cond c 9223372036854775808 (f .rows), out)) (sym b) ∙ ap (λ b. (code b (f .endless) (f .rows), out)) (sym a) ∙ ap coded e
@@ -44,8 +46,8 @@ module _ {c : Change} {out : List ℕ × List ℕ} {x : Change × (List ℕ × L
   pub change-refused : (n p m : ℕ) → c .answer ≡ Refused n p → m ≡ refusal n p → (m, out) ≡ coded-change x
   change-refused n p m a r = ap (λ k. (k, out)) r ∙ ap (λ b. (change-code b (c .joined) (c .left), out)) (sym a) ∙ ap coded-change e
 
-  pub change-at : (n p : ℕ) → c .answer ≡ Refused n p → p ≡ place (x .0 .answer)
-  change-at n p a = ap place (sym a) ∙ ap (λ q. place (q .0 .answer)) e
+  pub change-at : place (x .0 .answer) < max-nodes → (n p : ℕ) → c .answer ≡ Refused n p → p < max-nodes
+  change-at h n p a = refused-place (c .answer) n p a (subst⁻¹ (λ q. place (q .0 .answer) < max-nodes) e h)
 
   pub change-done : c .answer ≡ Done → (c .joined + 65536 * c .left, out) ≡ coded-change x
   change-done a = ap (λ b. (change-code b (c .joined) (c .left), out)) (sym a) ∙ ap coded-change e

@@ -163,6 +163,10 @@ pub place-when : {m : ℕ} (n : ℕ) (b : Bool) (cs : List Check) → place (fir
 place-when n true cs h = omega arith
 place-when n false cs h = h
 
+-- The place of a refusal is its answer's.
+pub refused-place : {m : ℕ} (a : Answer) (n p : ℕ) → a ≡ Refused n p → place a < m → p < m
+refused-place {m} a n p e h = subst (λ b. place b < m) e h
+
 -- A cause of nodes is met at one of them.
 pub place-lowest : {m : ℕ} (n : ℕ) (faulty : ℕ → Bool) (k : ℕ) (cs : List Check) → k ≤ m → place (first-cause cs) < m → place (first-cause (check n (lowest faulty k) ∷ cs)) < m
 place-lowest {m} n faulty k cs h l = go (lowest faulty k) refl

@@ -16,6 +16,7 @@ use Rattle.calculus.specs.Rows.{Row, Result, endless, listed}
 use Rattle.causes.specs.declared.Answer.{Answer}
 use Rattle.causes.specs.declared.Answer.the-variants.{Done, Refused}
 use Rattle.causes.specs.Causes.{first-cause, number, place}
+use Rattle.causes.specs.Causes.Laws.{refused-place}
 use Rattle.query.specs.declared.Query.{Query}
 use Rattle.query.specs.Reading.{max-nodes, max-constants, constants-of, nodes-of, pool, nodes-in}
 use Rattle.query.specs.Accepted.Laws.{read-done, pool-of, reading-accepted}
@@ -30,7 +31,7 @@ use Rattle.answer.specs.Reply.{front-bytes}
 use Rattle.packed.specs.declared.Listing.{Listing}
 use Rattle.packed.specs.Packed.{widths-in, query-in, query-read, input-checks, judged-reply, judged-of, result-in, list-checks, listing-reply, byte-listing-of}
 use Rattle.packed.specs.Packed.Laws.{query-accepted, input-few}
-use Rattle.packed.specs.Packed.Places.{judged-place, listing-place}
+use Rattle.packed.specs.Packed.Places.{judged-place, listing-place, listing-refused}
 use Rattle.packed.specs.Packed.Told.{rows-fit}
 use Rattle.host.specs.Entry.{code, code-endless, answer-refusal, form-bytes, verdict-bytes, verdict-reply, verdict-entry, room-in, answer-reply, answer-entry}
 use Rattle.host.specs.Code.Entry.{Few, Writable}
@@ -81,7 +82,7 @@ module _ (bs out : List ℕ) (v : Verdict) (e : v ≡ judged-of bs) where
 
   -- The place of a refusal is a node's number, or 0.
   pub verdict-place : (n p : ℕ) → v .answer ≡ Refused n p → p < max-nodes
-  verdict-place n p f = omega (arith, ap place f, ap (λ w. place (w .answer)) e, judged-place bs)
+  verdict-place n p f = refused-place (v .answer) n p f (subst⁻¹ (λ w. place (w .answer) < max-nodes) e (judged-place bs))
 
   pub verdict-written : (o : List ℕ) → v .answer ≡ Done → o ≡ verdict-bytes v → (0, o) ≡ verdict-entry bs out
   verdict-written o f g = ap (λ x. (0, x)) g ∙ reply-is Done f
@@ -140,7 +141,7 @@ module _ (bs out after : List ℕ) (l : Listing) (e : (l, after) ≡ byte-listin
   answer-refused n p k a f = ap (λ z. (code-endless + z, after)) f ∙ ap (λ c. (told-code c (l .endless) (l .rows), after)) (sym a) ∙ told
 
   pub answer-place : (n p : ℕ) → l .answer ≡ Refused n p → p < max-nodes
-  answer-place n p f = omega (arith, ap place f, ap (λ q. place (q .0 .answer)) e, listing-place front-bytes (room-in (length out)) bs out)
+  answer-place = listing-refused front-bytes (room-in (length out)) bs out l after e
 
   pub answer-endless : l .answer ≡ Done → l .endless ≡ true → (code-endless, after) ≡ answer-entry bs out
   answer-endless a t = (λ i. (told-code (sym a i) (sym t i) (l .rows), after)) ∙ told
@@ -148,7 +149,7 @@ module _ (bs out after : List ℕ) (l : Listing) (e : (l, after) ≡ byte-listin
   pub answer-listed : l .answer ≡ Done → l .endless ≡ false → (l .rows, after) ≡ answer-entry bs out
   answer-listed a f = (λ i. (told-code (sym a i) (sym f i) (l .rows), after)) ∙ told
 
--- Number and place can be read off the number that a refusal returns, the place being a byte.
+-- Number and place can be read off the number that a refusal returns, the place being below `max-nodes`.
 code-read : (a : Answer) → place a < max-nodes → (code a / 256 ≡ number a) × (code a % 256 ≡ place a)
 code-read a h = (omega arith, omega arith)
 

@@ -9,13 +9,12 @@ use lib.ListN.{length, take, length-append, length-replicate}
 use lib.Seq.{length-take-le}
 use Rattle.calculus.specs.Sets.{union-of}
 use Rattle.causes.specs.declared.Answer.the-variants.{Done, Refused}
-use Rattle.causes.specs.Causes.{place}
 use Rattle.query.specs.Reading.{max-nodes}
 use Rattle.answer.specs.Reply.{front as at-front}
 use Rattle.answer.specs.Code.Listing.{cut}
 use Rattle.packed.specs.declared.Listing.{Listing}
 use Rattle.packed.specs.Packed.{listing-of}
-use Rattle.packed.specs.Packed.Places.{listing-place}
+use Rattle.packed.specs.Packed.Places.{listing-refused}
 use Rattle.lines.specs.Text.{line, word-refused, word-row, word-rows, word-endless, head-text, text-of, printed}
 use Rattle.lines.specs.Code.Text.{wrote}
 use Rattle.lines.specs.Text.Laws.{wrote-then, wrote-end, wrote-length, wrote-printed, length-head, length-line, length-cut-rows}
@@ -46,7 +45,7 @@ module _ {bs room : List ℕ} {l : Listing} {after out : List ℕ} (k : Ready bs
 
   -- The place of a refusal is a node's number, or 0.
   place-fits : (n p : ℕ) → l .answer ≡ Refused n p → p < max-nodes
-  place-fits n p g = omega (arith, ap place g, ap (λ q. place (q .0 .answer)) (k .reply), listing-place at-front (length room) bs room)
+  place-fits = listing-refused at-front (length room) bs room l after (k .reply)
 
   module _ (g : l .answer ≡ Done) where
     abbrev front : List ℕ

@@ -156,7 +156,8 @@ checked-accepted ws cs ns c = record {
 
 -- ---- the reply, by its answer
 
-reply-answer : (a : Answer) (cs ns : List ℕ) → read-reply a cs ns .answer ≡ a
+-- A reader's reply carries its answer.
+pub reply-answer : (a : Answer) (cs ns : List ℕ) → read-reply a cs ns .answer ≡ a
 reply-answer Done cs ns = refl
 reply-answer (Refused n p) cs ns = refl
 

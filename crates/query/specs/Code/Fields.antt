@@ -36,5 +36,5 @@ abbrev pub rest-of : ℕ → ℕ
 rest-of w = by-kind (truth-rest w) (record-rest w) (equality-rest w) (not-rest w) (join-rest w) (join-rest w) (exists-rest w) 0 w
 
 -- A test as it is.
-abbrev pub same : Bool → Bool
-same b = b
+abbrev pub itself : Bool → Bool
+itself b = b

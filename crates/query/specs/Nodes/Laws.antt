@@ -123,7 +123,7 @@ uses-few : (ns : List ℕ) (c : ℕ) → uses ns c ≤ 2 * length ns
 uses-few [] c = omega arith
 uses-few (w ∷ ns) c = omega (arith, occurrences-append c (children w) (union-of children ns), occurrences-few c (children w), children-few w, uses-few ns c)
 
--- The uses of a node among fewer than 64 nodes are so few that two more can be counted in a byte.
+-- The uses of a node among fewer than `max-nodes` nodes are so few that two more can be counted in a byte.
 pub uses-fit : (ns : List ℕ) (i c : ℕ) → i ≤ length ns → i < max-nodes → uses (take i ns) c < 254
 uses-fit ns i c h l = omega (arith, uses-few (take i ns) c, length-take-le i ns h)
 

@@ -79,7 +79,10 @@ join-of-fields w z = omega arith
 pub exists-of-fields : (w : ℕ) → kind w ≡ 6 → exists-rest w ≡ 0 → w ≡ exists-word (variable w) (under w)
 exists-of-fields w e z = omega arith
 
--- A term has 5 bits.
+-- A variable has 4 bits, a term 5.
+pub variable-small : (w : ℕ) → variable w < 16
+variable-small w = omega arith
+
 pub equal-term-small : (w : ℕ) → equal-term w < 32
 equal-term-small w = omega arith
 

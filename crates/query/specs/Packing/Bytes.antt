@@ -56,7 +56,7 @@ header-clear ws bs rest t two v some few least e =
       lt-leb (suc (length bs)) 2 (omega arith),
       v,
       ne-eqb (count-of-nodes bs) 0 (λ z. omega arith),
-      lt-leb 65 (count-of-nodes bs) (omega arith),
+      lt-leb (suc max-nodes) (count-of-nodes bs) (omega arith),
       lt-leb 17 (count-of-constants bs) (omega arith),
       eq-eqb (length bs) (2 + 4 * count-of-constants bs + 4 * count-of-nodes bs) e,
     )

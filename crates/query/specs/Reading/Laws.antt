@@ -149,8 +149,8 @@ read-place ws bs = go (first-cause (header-checks ws bs)) refl
     tree l =
         let mismatch = check 9 (lowest (λ i. mismatched ws (getD ns i 0)) (length ns)) ∷ column-checks ns in
         let stray = check 8 (lowest (λ i. strays (count-of-constants bs) (getD ns i 0)) (length ns)) ∷ mismatch in
-        let place-7 = check 7 (lowest (misplaced ns) (length ns)) ∷ stray in
-        place-lowest 6 (λ i. malformed (getD ns i 0)) (length ns) place-7 l
+        let misplace = check 7 (lowest (misplaced ns) (length ns)) ∷ stray in
+        place-lowest 6 (λ i. malformed (getD ns i 0)) (length ns) misplace l
         (place-lowest 7 (misplaced ns) (length ns) stray l
         (place-lowest 8 (λ i. strays (count-of-constants bs) (getD ns i 0)) (length ns) mismatch l
         (place-lowest 9 (λ i. mismatched ws (getD ns i 0)) (length ns) (column-checks ns) l columns-place)))

@@ -1,6 +1,6 @@
 -- Laws of the calls: what is known of a store and a query that pass the causes 1 to 10, and the replies in each case that the code comes to.
 use Prim.Native.Nat.{ℕ, _-_, _≤_, _<_, _^_}
-use mathlib.Core.Path.{_≡_, refl, sym, ap, subst⁻¹, _∙_}
+use mathlib.Core.Path.{_≡_, sym, ap, subst⁻¹, _∙_}
 use mathlib.Core.Bool.{Bool, true, false, not, cond}
 use mathlib.Core.List.{List, [], _∷_, _++_}
 use lib.ListN.{length, getD, replicate}
@@ -17,7 +17,7 @@ use Rattle.tables.specs.Store.Laws.{judged-layout}
 use Rattle.query.specs.declared.Reading.{Reading}
 use Rattle.query.specs.Reading.{max-columns, constants-of, nodes-of, read-checks, refusal, read-reply, formula, columns-of, read-of, variables-in}
 use Rattle.query.specs.Accepted.{Accepted}
-use Rattle.query.specs.Accepted.Laws.{read-few, read-columns, reading-accepted}
+use Rattle.query.specs.Accepted.Laws.{reply-answer, read-few, read-columns, reading-accepted}
 use Rattle.answer.specs.Reply.{result-of, query-read}
 use Rattle.answer.specs.Code.Reply.{Answerable}
 use Rattle.standing.specs.declared.View.{View}
@@ -29,11 +29,6 @@ use Rattle.standing.specs.Change.Turn.{too-many, all-kept, over-is}
 
 -- ---- the query as read, or a refusal
 
--- A reader's reply carries its answer.
-read-answer : (a : Answer) (cs ns : List ℕ) → read-reply a cs ns .answer ≡ a
-read-answer Done cs ns = refl
-read-answer (Refused n p) cs ns = refl
-
 module _ (s : Store) (bs : List ℕ) where
   -- The reply by the first cause met.
   abbrev replied : Answer → Reading
@@ -41,7 +36,7 @@ module _ (s : Store) (bs : List ℕ) where
 
   -- Its answer is the first of the causes 1 to 10.
   pub begun-cause : (a : Answer) → begun s bs .answer ≡ a → first-cause (begin-checks s bs) ≡ a
-  begun-cause a e = sym (read-answer (first-cause (begin-checks s bs)) (constants-of bs) (nodes-of bs)) ∙ e
+  begun-cause a e = sym (reply-answer (first-cause (begin-checks s bs)) (constants-of bs) (nodes-of bs)) ∙ e
 
   -- The store is refused.
   pub begun-refused : (n p : ℕ) → judgement s ≡ Refused n p → refusal n p ≡ begun s bs
@@ -57,7 +52,7 @@ module _ (s : Store) (bs : List ℕ) where
 
     -- The answer of `ready` is the first of the causes 1 to 10 and 12.
     pub readied-cause : (a : Answer) → readied s v bs .answer ≡ a → first-cause (ready-checks s v bs) ≡ a
-    readied-cause a e = sym (read-answer (first-cause (ready-checks s v bs)) (constants-of bs) (nodes-of bs)) ∙ e
+    readied-cause a e = sym (reply-answer (first-cause (ready-checks s v bs)) (constants-of bs) (nodes-of bs)) ∙ e
 
     -- Store or query are refused.
     pub readied-refused : (n p : ℕ) → first-cause (begin-checks s bs) ≡ Refused n p → begun s bs ≡ readied s v bs
@@ -85,7 +80,7 @@ module _ (s : Store) (bs : List ℕ) (done : first-cause (begin-checks s bs) ≡
   pub begun-is : begun s bs ≡ read-of (s .widths) bs
   begun-is = sym (begun-reading s bs begun-judged)
 
-  -- and accepted.
+  -- It is accepted.
   reads : first-cause (read-checks (s .widths) bs) ≡ Done
   reads = later-done (store-checks s) (read-checks (s .widths) bs) done
 
@@ -103,7 +98,7 @@ module _ (s : Store) (bs : List ℕ) (done : first-cause (begin-checks s bs) ≡
   pub begun-variables : variables-in (read-of (s .widths) bs .columns) ≡ columns (formula (query-read s bs))
   begun-variables = let cols : List ℕ = columns (formula (query-read s bs)) in ap variables-in begun-columns ∙ take-append-seam cols (replicate (max-columns - length cols) 0)
 
-  -- The query read can be evaluated over every store in the layout that has the widths, the constants being 32-bit numbers.
+  -- The query read can be answered over every store in the layout that has the widths, the constants being 32-bit numbers.
   pub begun-answerable : ((i : ℕ) → getD (query-read s bs .constants) i 0 < 2 ^ 32) → (t : Store) → t .widths ≡ s .widths → judgement t ≡ Done → Answerable t (query-read s bs) (read-of (s .widths) bs .columns)
   begun-answerable small t w judged =
       record {
@@ -112,7 +107,7 @@ module _ (s : Store) (bs : List ℕ) (done : first-cause (begin-checks s bs) ≡
         columns-are = begun-columns;
       }
 
-  -- Nor is 12.
+  -- Cause 12 is not met either.
   pub readied-is : (v : View) → first-cause (ready-checks s v bs) ≡ Done → readied s v bs ≡ read-of (s .widths) bs
   readied-is v ready = ap (replied s bs) (ready ∙ sym done) ∙ begun-is
 

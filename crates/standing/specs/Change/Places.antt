@@ -1,4 +1,4 @@
--- A put or removal that is refused names a node of its query, or 0.
+-- A call that is refused names a node of its query, or 0.
 use Prim.Native.Nat.{ℕ, _+_, _*_, _<_}
 use native.Mathlib.Omega.{arith}
 use mathlib.Core.Bool.{Bool, not, _||_}
@@ -23,7 +23,19 @@ use Rattle.answer.specs.Reply.Places.{begin-place}
 use Rattle.standing.specs.declared.View.{View}
 use Rattle.standing.specs.View.{suits, kept}
 use Rattle.standing.specs.Checks.{Kind, put, removal, view-checks, record-checks, is-over, is-past, report-checks}
-use Rattle.standing.specs.Change.{joining, leaving, begin-checks, ready-checks, turn-checks, store-after, turn-reply, change-of}
+use Rattle.standing.specs.Change.{joining, leaving, begin-checks, over-checks, opening-reply, opened-of, ready-checks, turn-checks, store-after, turn-reply, change-of}
+
+pub open-place : (s : Store) (bs : List ℕ) → place (opened-of s bs .answer) < max-nodes
+open-place s bs =
+    go (first-cause (begin-checks s bs ++ over-checks found))
+    (place-then (begin-checks s bs) (over-checks found) (begin-place s bs) (place-when 17 (is-over (length (kept found))) [] (omega arith)))
+  where
+    found : Result
+    found = result-of s (query-read s bs)
+
+    go : (a : Answer) → place a < max-nodes → place (opening-reply a (columns (formula (query-read s bs))) found .answer) < max-nodes
+    go Done h = h
+    go (Refused n p) h = h
 
 ready-place : (s : Store) (v : View) (bs : List ℕ) → place (first-cause (ready-checks s v bs)) < max-nodes
 ready-place s v bs =

@@ -22,7 +22,7 @@ pub length-row-places : (vs : List ℕ) → length (row-places vs) ≡ max-rows
 unfolding row-places
 length-row-places vs = length-tabulate (row-at vs) max-rows
 
--- Row place i has the values at place i.
+-- Row place i is read off the values from 4 i on.
 pub getD-row-places : (vs : List ℕ) (i : ℕ) → i < max-rows → getD (row-places vs) i [] ≡ row-at vs i
 unfolding row-places
 getD-row-places vs i h = getD-tabulate (row-at vs) max-rows i [] h

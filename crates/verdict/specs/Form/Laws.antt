@@ -22,7 +22,7 @@ use Rattle.calculus.specs.Propagation.Laws.{NegView, neg-truth, neg-other, neg-
 use Rattle.causes.specs.Causes.{widths-fit}
 use Rattle.query.specs.declared.Query.{Query}
 use Rattle.query.specs.Nodes.{kind, variable, equal-term, malformed, mismatched, truth-rest, equality-rest, equality-word, not-word, join-word, exists-word}
-use Rattle.query.specs.Nodes.Words.{truth-of-fields}
+use Rattle.query.specs.Nodes.Words.{truth-of-fields, variable-small}
 use Rattle.query.specs.Decoding.{term-of, node-formula, formula-in, formulas, formula-at, root}
 use Rattle.query.specs.Decoding.Laws.{Kind, is-truth as truth-kind, is-record, is-equality, is-not, is-and, is-or, is-exists, is-none, kind-of, formula-here}
 use Rattle.query.specs.Reading.{max-nodes, max-constants, read-of, pool, formula}
@@ -176,7 +176,7 @@ module _ (ws : List ℕ) (k : ℕ) (fit : T (widths-fit ws)) (few : k ≤ max-co
       go (is-none j e) = absurd (omega arith)
 
   pub equality-words : (w : ℕ) (child : ℕ → Fmla) (n : ℕ) → malformed w ≡ false → kind w ≡ 2 → words (cp (node-formula w child)) n ≡ settled w ∷ []
-  equality-words w child n f e = rw e (equality-settled w (variable w) (equal-term w) n (omega arith) (equality-again w e (nonzero-false (equality-rest w) (rw e at f))))
+  equality-words w child n f e = rw e (equality-settled w (variable w) (equal-term w) n (variable-small w) (equality-again w e (nonzero-false (equality-rest w) (rw e at f))))
 
   -- ---- what propagation makes can be packed
 

@@ -97,7 +97,7 @@ ungenerated-small q x i = fv-small (nodes-in q) (length (nodes-in q) - 1) x (ung
 form-size : (q : Query) → size (cp (formula q)) ≡ form-of q .«node_count»
 form-size q = sym (length-words (cp (formula q)) 0)
 
--- Safe-range exactly when both reports are zero, where the form has at most 64 nodes.
+-- Safe-range exactly when both reports are zero, where the form has at most `max-nodes` nodes.
 safe-zero : (q : Query) → size (cp (formula q)) ≤ max-nodes → judged q .safe ≡ (eqb (judged q .ungenerated) 0 && eqb (judged q .unranged) 0)
 safe-zero q few = λ i. sym (mask-empty 16 (verdict (formula q) .ungenerated) (ungenerated-small q)) i && sym (mask-empty max-nodes (verdict (formula q) .unranged) unranged-small) i
   where

@@ -11,7 +11,7 @@ use lib.ListN.{getD}
 use lib.Dec.{eqb}
 use Rattle.query.specs.Nodes.{kind, variable, equal-term, terms, term-count, left, right, under}
 use Rattle.query.specs.Code.Fields.{fields-of}
-use Rattle.query.specs.Code.Fields.Laws.{some-tested, kind-read, two-read}
+use Rattle.query.specs.Code.Fields.Laws.{some-tested, kind-read, kind-two-read}
 use Rattle.query.specs.Code.Free.Laws.{free-of-kind, free-of-both, free-of-none, or-settled, or-left-to, and-settled, and-left-to}
 use Rattle.query.proofs.free.free_in_node.Statement.{statement}
 use Rattle.query.proofs.free.free_in_node.Tie as tie
@@ -94,7 +94,7 @@ returns-6 c =
 
 -- An and or an or.
 two : (c : tie.Then4) → let f = c .before .before .before .before in (4 ≤ kind (f .before .args .w)) × (kind (f .before .args .w) ≤ 5)
-two c = two-read (c .before .before .before .before .fields .ensures) (omega arith) (omega arith)
+two c = kind-two-read (c .before .before .before .before .fields .ensures) (omega arith) (omega arith)
 
 returns-7 : tie.Need-returns-7
 returns-7 c =

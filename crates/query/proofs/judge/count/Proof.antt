@@ -3,6 +3,7 @@ use Prim.Native.Nat.{ℕ, _+_, _<_}
 use native.Mathlib.Omega.{arith}
 use borrow.Author.Needs.{needs}
 use mathlib.Core.Path.{_≡_, ap, subst⁻¹, _∙_}
+use mathlib.Core.Logic.{_≢_}
 use mathlib.Core.List.{List, []}
 use lib.ListN.{length, getD, set}
 use Rattle.query.specs.Nodes.{children}
@@ -29,12 +30,9 @@ both counts mid now x y e f = f ∙ ap (λ (cs : List ℕ). set cs y (getD cs y 
 places : (c : tie.After-fields) → length (c .before .before .before .args .counts .now) ≡ max-nodes
 places c = search needs
 
--- A node that is no not and no exists, and has no two children, has none.
-childless : (c : tie.At-match-rest) → (c .before .fields .result .kind < 4) → children (c .before .before .before .before .args .w) ≡ []
-childless c h = children-none-read (c .before .fields .ensures) (c .match .rest .0 .1) (λ e. omega arith) (λ e. omega arith) (c .match .rest .1)
-
-childless-past : (c : tie.At-match-rest) → (5 < c .before .fields .result .kind) → children (c .before .before .before .before .args .w) ≡ []
-childless-past c h = children-none-read (c .before .fields .ensures) (c .match .rest .0 .1) (λ e. omega arith) (λ e. omega arith) (c .match .rest .1)
+-- A node that is no not, no and, no or and no exists has no children.
+childless : (c : tie.At-match-rest) → c .before .fields .result .kind ≢ 4 → c .before .fields .result .kind ≢ 5 → children (c .before .before .before .before .args .w) ≡ []
+childless c a b = children-none-read (c .before .fields .ensures) (c .match .rest .0 .1) a b (c .match .rest .1)
 
 -- ---- the needs
 
@@ -74,7 +72,7 @@ returns-2 c =
 returns-3 : tie.Need-returns-3
 returns-3 c =
     let f = c .before .before in let s = f .before .before .before in
-    counted-none (s .args .counts .now) (places f) (s .args .w) (childless (c .before) (omega arith))
+    counted-none (s .args .counts .now) (places f) (s .args .w) (childless (c .before) (λ e. omega arith) (λ e. omega arith))
 
 returns-4 : tie.Need-returns-4
 returns-4 c =
@@ -86,7 +84,7 @@ returns-4 c =
 returns-5 : tie.Need-returns-5
 returns-5 c =
     let f = c .before .before .before in let s = f .before .before .before in
-    counted-none (s .args .counts .now) (places f) (s .args .w) (childless-past (c .before .before) (omega arith))
+    counted-none (s .args .counts .now) (places f) (s .args .w) (childless (c .before .before) (λ e. omega arith) (λ e. omega arith))
 
 pub count-spec : {M : Type 1} → statement M
 count-spec =

@@ -5,19 +5,15 @@ use mathlib.Core.Path.{refl}
 use Rattle.query.proofs.node.fields.Statement.{statement}
 use Rattle.query.proofs.node.fields.Tie as tie
 
--- src/node.rt:45:15
 cast-t24 : tie.Need-cast-t24
 cast-t24 c = search needs
 
--- src/node.rt:46:16
 cast-t27 : tie.Need-cast-t27
 cast-t27 c = search needs
 
--- src/node.rt:47:16
 cast-t30 : tie.Need-cast-t30
 cast-t30 c = search needs
 
--- src/node.rt:34:1
 returns : tie.Need-returns
 returns c = record { reads = refl; left-fits = omega arith; right-fits = omega arith; under-fits = omega arith; variable-fits = omega arith; relation-fits = omega arith }
 

@@ -8,7 +8,7 @@ use mathlib.Core.Bool.{false, or-false}
 use mathlib.Core.List.{[], _∷_}
 use lib.Seq.{take-all}
 use Rattle.calculus.specs.Lists.Laws.{any-take-at}
-use Rattle.query.specs.Code.Fields.{same}
+use Rattle.query.specs.Code.Fields.{itself}
 use Rattle.query.proofs.node.some_of.Statement.{statement}
 use Rattle.query.proofs.node.some_of.Tie as tie
 
@@ -21,7 +21,7 @@ returns c = search needs
 returns-2 : tie.Need-returns-2
 returns-2 c =
     let x = c .before .before .args in
-    sym (any-take-at same false (x .a ∷ x .b ∷ x .c ∷ x .d ∷ []) (x .count) 0 (omega arith) (omega arith) (c .if2 .taken))
+    sym (any-take-at itself false (x .a ∷ x .b ∷ x .c ∷ x .d ∷ []) (x .count) 0 (omega arith) (omega arith) (c .if2 .taken))
 
 returns-3 : tie.Need-returns-3
 returns-3 c = rw (c .if3 .taken, c .before .if2 .left)
@@ -29,7 +29,7 @@ returns-3 c = rw (c .if3 .taken, c .before .if2 .left)
 returns-4 : tie.Need-returns-4
 returns-4 c =
     let x = c .before .before .before .before .args in
-    sym (any-take-at same false (x .a ∷ x .b ∷ x .c ∷ x .d ∷ []) (x .count) 1 (omega arith) (omega arith) (c .if4 .taken))
+    sym (any-take-at itself false (x .a ∷ x .b ∷ x .c ∷ x .d ∷ []) (x .count) 1 (omega arith) (omega arith) (c .if4 .taken))
 
 returns-5 : tie.Need-returns-5
 returns-5 c = rw (c .if5 .taken, c .before .if4 .left, c .before .before .before .if2 .left)
@@ -37,7 +37,7 @@ returns-5 c = rw (c .if5 .taken, c .before .if4 .left, c .before .before .before
 returns-6 : tie.Need-returns-6
 returns-6 c =
     let x = c .before .before .before .before .before .before .args in
-    sym (any-take-at same false (x .a ∷ x .b ∷ x .c ∷ x .d ∷ []) (x .count) 2 (omega arith) (omega arith) (c .if6 .taken))
+    sym (any-take-at itself false (x .a ∷ x .b ∷ x .c ∷ x .d ∷ []) (x .count) 2 (omega arith) (omega arith) (c .if6 .taken))
 
 returns-7 : tie.Need-returns-7
 returns-7 c = rw (c .if7 .taken, c .before .if6 .left, c .before .before .before .if4 .left, c .before .before .before .before .before .if2 .left)

@@ -3,23 +3,33 @@ use Prim.Native.Nat.{ℕ, zero, suc, _-_, _≤_, _<_}
 use native.Mathlib.Omega.{arith}
 use mathlib.Core.Path.{_≡_, refl, sym, ap, _∙_}
 use mathlib.Core.Logic.{_≢_, ⊎-elim}
-use mathlib.Core.Bool.{Bool, true, _&&_, _||_, or-false}
+use mathlib.Core.Bool.{Bool, true, false, not, _&&_, _||_, or-false}
 use mathlib.Core.List.{List, [], _∷_, map}
 use lib.ListN.{getD, take, drop}
 use lib.Dec.{eqb}
-use Rattle.calculus.specs.Sets.{any-of}
+use Rattle.calculus.specs.Sets.{any-of, all-of}
 use Rattle.query.specs.declared.node.Node.{Node}
 use Rattle.query.specs.Nodes.{kind, term-count, terms, children, nonzero, malformed, truth-rest, record-rest, equality-rest, not-rest, join-rest, exists-rest}
 use Rattle.query.specs.Nodes.Laws.{two-or, children-not, children-exists, children-two, children-none}
-use Rattle.query.specs.Code.Fields.{NodeOf, rest-of, same}
+use Rattle.query.specs.Code.Fields.{NodeOf, rest-of, itself}
 
 -- ---- tests of terms
 
 -- Some of the first tests is true exactly where it is of some of the first elements.
-pub some-tested : {A : Type 0} (f : A → Bool) (n : ℕ) (xs : List A) → any-of same (take n (map f xs)) ≡ any-of f (take n xs)
+pub some-tested : {A : Type 0} (f : A → Bool) (n : ℕ) (xs : List A) → any-of itself (take n (map f xs)) ≡ any-of f (take n xs)
 some-tested f zero xs = refl
 some-tested f (suc n) [] = refl
 some-tested f (suc n) (x ∷ xs) = λ i. f x || some-tested f n xs i
+
+-- All of the first elements pass where none of the tests finds one that doesn't.
+pub all-tested : {A : Type 0} (f : A → Bool) (n : ℕ) (xs : List A) → all-of f (take n xs) ≡ not (any-of itself (take n (map (λ x. not (f x)) xs)))
+all-tested f zero xs = refl
+all-tested f (suc n) [] = refl
+all-tested f (suc n) (x ∷ xs) = both (f x) (any-of itself (take n (map (λ y. not (f y)) xs))) (all-tested f n xs)
+  where
+    both : (b d : Bool) {c : Bool} → c ≡ not d → (b && c) ≡ not (not b || d)
+    both true d e = e
+    both false d e = refl
 
 -- ---- the bits past the fields
 
@@ -53,8 +63,8 @@ module _ {w : ℕ} {f : Node} (n : NodeOf w f) where
   pub kind-not-read : {j : ℕ} → f .kind ≢ j → kind w ≢ j
   kind-not-read k q = k (ap (λ g. g .kind) (n .reads) ∙ q)
 
-  pub two-read : 4 ≤ f .kind → f .kind ≤ 5 → (4 ≤ kind w) × (kind w ≤ 5)
-  two-read h l = let k = ap (λ g. g .kind) (n .reads) in (omega (arith, k), omega (arith, k))
+  pub kind-two-read : 4 ≤ f .kind → f .kind ≤ 5 → (4 ≤ kind w) × (kind w ≤ 5)
+  kind-two-read h l = let k = ap (λ g. g .kind) (n .reads) in (omega (arith, k), omega (arith, k))
 
   pub children-not-read : f .kind ≡ 3 → children w ≡ f .left ∷ []
   children-not-read k = children-not w (kind-read k) ∙ ap (λ g. g .left ∷ []) (sym (n .reads))
@@ -63,7 +73,7 @@ module _ {w : ℕ} {f : Node} (n : NodeOf w f) where
   children-exists-read k = children-exists w (kind-read k) ∙ ap (λ g. g .under ∷ []) (sym (n .reads))
 
   pub children-two-read : 4 ≤ f .kind → f .kind ≤ 5 → children w ≡ f .left ∷ f .right ∷ []
-  children-two-read h l = let k = two-read h l in children-two w (k .0) (k .1) ∙ ap (λ g. g .left ∷ g .right ∷ []) (sym (n .reads))
+  children-two-read h l = let k = kind-two-read h l in children-two w (k .0) (k .1) ∙ ap (λ g. g .left ∷ g .right ∷ []) (sym (n .reads))
 
   pub children-none-read : f .kind ≢ 3 → f .kind ≢ 4 → f .kind ≢ 5 → f .kind ≢ 6 → children w ≡ []
   children-none-read a b c d = children-none w (kind-not-read a) (kind-not-read b) (kind-not-read c) (kind-not-read d)

@@ -1,6 +1,7 @@
--- `trials::runs::rows_of` is safe and ends: 2,048 places, one a turn.
-use Prim.Native.Nat.{_-_, _≤_, _<_}
+-- `trials::runs::rows_of` is safe and ends: one value of the row places a turn.
+use Prim.Native.Nat.{_*_, _-_, _≤_, _<_}
 use borrow.Author.Needs.{needs}
+use Rattle.standing.specs.View.{max-rows}
 use Rattle.trials.proofs.runs.rows_of.Statement.{statement}
 use Rattle.trials.proofs.runs.rows_of.Tie as tie
 use Rattle.trials.proofs.runs.rows_of.Reads as reads
@@ -8,10 +9,10 @@ use Rattle.trials.proofs.runs.rows_of.Lts as lts
 use Rattle.trials.proofs.quad.Reads as quad-reads
 
 abbrev Inv-loop : tie.InvT-loop
-Inv-loop s from count given values₀ i₀ values i = (i ≤ 2048) × (from < 900000) × (given < 65536)
+Inv-loop s from count given values₀ i₀ values i = (i ≤ 4 * max-rows) × (from < 900000) × (given < 65536)
 
 abbrev μ-loop : tie.MeasureT-loop
-μ-loop s from count given values₀ i₀ values i = 2048 - i
+μ-loop s from count given values₀ i₀ values i = 4 * max-rows - i
 
 loop-holds : tie.Need-loop-holds Inv-loop μ-loop
 loop-holds c = search needs
