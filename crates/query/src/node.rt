@@ -1,5 +1,6 @@
 // A packed node: its fields, its word, and tests of its terms. A node is a 32-bit number whose first 3 bits are its kind; its fields follow, most significant
-// first. Only this module knows where they stand: everybody else reads a node by `fields` and writes one by the functions of its kind.
+// first. Only this module knows where they stand: everybody else reads a node by `fields` and writes one by the functions of its kind. Those that write ask for
+// numbers that have room in their fields, as the numbers of a form's nodes and a query's variables have.
 ghost use mathlib.Core.Path.{_≡_};
 ghost use Prim.Native.Nat.{_≤_, _<_};
 ghost use mathlib.Core.List.{[], _∷_};
