@@ -13,11 +13,13 @@ ROOT = pathlib.Path(__file__).resolve().parent.parent
 ARCHIVE = ROOT / "target" / "staticlib" / "libhost.a"
 BUILT = ROOT / "target" / "host"
 ROOM = 4096  # numbers: the list program's
-VERDICT = 370  # bytes
+VERDICT, QUERY = 370, 322  # bytes
 REFUSED, ENDLESS = 1 << 31, 1 << 63
 
 # The causes in the order in which they are judged: what is wrong, and what mends it. README.md has the same words.
 CAUSES = {
+    20: ("a rule text outside the grammar, or past a limit",
+         "the place is an offset in the text: look at the byte there; where the text ends there, end the rule or bring it within the limits"),
     2: ("the input ends before its query, or is over 8,192 bytes",
         "pack the line again, each record once: 256 records and the longest query take 4,692 bytes"),
     1: ("a width above 4",
@@ -104,11 +106,19 @@ class Engine:
         archive = pathlib.Path(archive or ARCHIVE).resolve()
         try:
             library = ctypes.CDLL(str(shared_object(archive)))
-            self.judge, self.find = library.palmrummy_verdict, library.palmrummy_answer
+            self.judge, self.find, self.take = library.palmrummy_verdict, library.palmrummy_answer, library.palmrummy_rule
         except (OSError, AttributeError) as error:
             raise NoEngine(f"the engine of {archive} can't be called: {error}") from None
         self.judge.argtypes, self.judge.restype = [ctypes.c_char_p, ctypes.c_size_t, ctypes.c_char_p], ctypes.c_uint32
         self.find.argtypes, self.find.restype = [ctypes.c_char_p, ctypes.c_size_t, ctypes.c_char_p, ctypes.c_size_t], ctypes.c_uint64
+        self.take.argtypes = [ctypes.c_char_p, ctypes.c_size_t, ctypes.c_char_p, ctypes.POINTER(ctypes.c_uint64)]
+        self.take.restype = ctypes.c_uint32
+
+    def rule(self, text):
+        """The packed query of a rule text, both as bytes; or a Refusal, whose place is an offset in the text."""
+        query, place = ctypes.create_string_buffer(QUERY), ctypes.c_uint64()
+        reply = self.take(text, len(text), query, ctypes.byref(place))
+        return Refusal(reply // 256 % 256, place.value) if reply > REFUSED else query.raw[:reply]
 
     def verdict(self, data):
         """A Verdict or a Refusal."""

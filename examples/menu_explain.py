@@ -194,7 +194,9 @@ class Endless:
 # ---- words
 
 def column_text(x, names):
-    return f"{names.variable(x)} (v{x})" if x in names.variables and names.variable(x) != f"v{x}" else f"v{x}"
+    """A column's name, with its number where the name doesn't have it."""
+    name = names.variable(x)
+    return name if name in (f"v{x}", f"X{x}") else f"{name} (v{x})"
 
 
 def refusal_lines(refusal, data, names):

@@ -9,7 +9,7 @@ from menu_nodes import AND, EQUALITY, EXISTS, MOST_COLUMNS, MOST_CONSTANTS, MOST
 
 GREATEST = 4294967295
 LONGEST = 8192  # bytes of an input
-MOST_RECORDS = 256
+MOST_RECORDS, MOST_TERMS = 256, 4
 DEEPEST = 150  # units around each other
 KEYWORDS = ("and", "columns", "exists", "false", "not", "or", "query", "relation", "true")
 FORMULA = "a formula should stand: not, exists, (, true, false, a relation or a variable"
@@ -324,13 +324,18 @@ def read(store_text, query_text, query_line=1, names=("the store", "the query"),
     return Packed(store.packed() + query.packed(), called)
 
 
-def read_one(text, name="the text", most_columns=MOST_COLUMNS):
-    """The same of a text that has store and query, with a line `query` between them."""
+def parted(text, name="the text"):
+    """The store text and the query text of a text that has both, with a line `query` between them; and the line at which the second starts."""
     lines = text.split("\n")
     marks = [i for i, line in enumerate(lines) if line.split("#")[0].strip() == "query"]
     if not marks:
         Text(name).refuse_for(Word("", len(lines), len(lines[-1]) + 1), "a line `query` should stand: it parts the store from the query")
-    return read("\n".join(lines[:marks[0]]), "\n".join(lines[marks[0] + 1:]), marks[0] + 2, (name, name), most_columns)
+    return "\n".join(lines[:marks[0]]), "\n".join(lines[marks[0] + 1:]), marks[0] + 2
+
+
+def read_one(text, name="the text", most_columns=MOST_COLUMNS):
+    """The same of a text that has store and query."""
+    return read(*parted(text, name), (name, name), most_columns)
 
 
 def pack(*texts, **options):

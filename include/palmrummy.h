@@ -1,7 +1,8 @@
-// Palmrummy for C and C++: the verdict on a query, and its answers, over one packed input.
+// Palmrummy for C and C++: the packed query of a rule; the verdict on a query, and its answers, over one packed input.
 //
-// Both entries take numbers and byte runs only. All numbers in the bytes are unsigned, high byte first. "Document 01"
-// is the scope paper; node, form, generator, safe-range and endless are its words.
+// The entries take numbers and byte runs only. All numbers in the bytes are unsigned, high byte first. "Document 01"
+// is the scope paper; node, form, generator, safe-range and endless are its words. "Document 02" has the customer
+// requests; rule, head and goal are its words.
 //
 // Link with target/staticlib/libhost.a, which `rt staticlib host` makes.
 #ifndef PALMRUMMY_H
@@ -50,9 +51,12 @@ extern "C" {
 #define PALMRUMMY_NODES_MOST 64
 #define PALMRUMMY_CONSTANTS_MOST 16
 #define PALMRUMMY_COLUMNS_MOST 4
+#define PALMRUMMY_QUERY_MOST 322    // bytes of a query: 2, 16 constants and 64 nodes of 4
 
 // ---- Numbers returned ----------------------------------------------------------------------------------------------
 //
+//   palmrummy_rule      the number of bytes of the packed query, 6 to 322, where it is written
+//   (32 bits)           2^31 + 256 × number for a refusal, whose place is written apart
 //   palmrummy_verdict   0 where the verdict is written
 //   (32 bits)           2^31 + 256 × number + place for a refusal
 //   palmrummy_answer    the number of rows, where they are written: below 2^63, however long the lent output is
@@ -61,22 +65,27 @@ extern "C" {
 #define PALMRUMMY_REFUSED UINT32_C(0x80000000)
 #define PALMRUMMY_ENDLESS UINT64_C(0x8000000000000000)
 
+static inline bool palmrummy_rule_is_refused(uint32_t reply) { return reply > PALMRUMMY_REFUSED; }
+
 static inline bool palmrummy_verdict_is_refused(uint32_t reply) { return reply > PALMRUMMY_REFUSED; }
 
 static inline bool palmrummy_answer_is_endless(uint64_t reply) { return reply == PALMRUMMY_ENDLESS; }
 
 static inline bool palmrummy_answer_is_refused(uint64_t reply) { return reply > PALMRUMMY_ENDLESS; }
 
-// The number of a refusal's cause, and its place: a node of the query as read, or 0. For refusals of either entry.
+// The number of a refusal's cause, for refusals of every entry; and its place, for those of a verdict and an answer: a
+// node of the query as read, or 0. The place of a refused rule can be any offset, and is not in the number returned.
 static inline uint32_t palmrummy_refusal_number(uint64_t reply) { return (uint32_t)(reply / 256 % 256); }
 
 static inline uint32_t palmrummy_refusal_place(uint64_t reply) { return (uint32_t)(reply % 256); }
 
 // The causes that the entries can meet, with the numbers of document 01's table, in the order in which they are judged,
 // each over the whole input. 13 and 15 are judged together, record by record. The other causes of that table (11, 12,
-// 14, 16, 17, 19) belong to calls that are not here. Where the place is a node, it is the lowest faulty one.
+// 14, 16, 17, 19) belong to calls that are not here. Where the place is a node, it is the lowest faulty one. 20 is
+// document 02's: palmrummy_rule meets no other cause, and it alone meets 20.
 //
 //   number  place   cause
+//   20      a byte  rule text outside the grammar, or past a limit: see below
 //   2       0       the input ends before its query, or is over 8,192 bytes
 //   1       0       a width above 4
 //   3       0       the query is under 2 bytes, or its version is not 1
@@ -90,6 +99,7 @@ static inline uint32_t palmrummy_refusal_place(uint64_t reply) { return (uint32_
 //   13      0       a record's relation is absent or over 15, or a value past its width is not zero
 //   15      0       over 256 different records
 //   18      0       rows × columns over the room of the lent output: from palmrummy_answer only
+#define PALMRUMMY_CAUSE_RULE 20
 #define PALMRUMMY_CAUSE_INPUT 2
 #define PALMRUMMY_CAUSE_WIDTH 1
 #define PALMRUMMY_CAUSE_VERSION 3
@@ -108,6 +118,36 @@ static inline uint32_t palmrummy_refusal_place(uint64_t reply) { return (uint32_
 static inline bool palmrummy_has_node(uint32_t number) {
     return PALMRUMMY_CAUSE_BITS <= number && number <= PALMRUMMY_CAUSE_RELATION;
 }
+
+// ---- Rules ---------------------------------------------------------------------------------------------------------
+//
+// A rule is Datalog text in ASCII, such as q(X0,X2):-r3(X0,17),not r1(X2),X0 = X2. with nothing before its first and
+// after its last byte, a line feed neither. Its only spaces are the one after not and the two around the equals sign.
+//
+//   rule      head :- goal , .. goal .
+//   head      q, or q ( variable , .. variable )      the columns
+//   goal      relation, not relation, or variable = term
+//   relation  r number ( term , .. term )
+//   term      variable or number
+//   variable  X number
+//   number    decimal digits without leading zeros
+//
+// The limits of a rule:
+// - The variables of the head are distinct, ascend, and each stands in a goal. There are at most 4.
+// - A relation has at most 4 terms. Relations and variables are numbered 0 to 15. A number as a term is at most
+//   4,294,967,295.
+// - The packed query has at most 64 nodes and 16 constants.
+//
+// The packed query joins the goals by and, from the left. Around them it has an exists for each variable of the goals
+// that is absent from the head, the highest number innermost. Constants stand once each, by first use. Nodes are
+// numbered left subtree, right subtree, parent. The query's columns are the variables of the head; its rows are those
+// for which some whole numbers for the other variables make every goal true.
+//
+// To ask it, put it after the widths and records of an input. Whether the widths suit its relations is judged there
+// (cause 9).
+//
+// The place of a refusal is an offset in the text, which can be past 65,535. It is the first byte at which no rule can
+// continue, whatever its limits; or the text's length, where the text ends early or is a rule past a limit.
 
 // ---- The verdict ---------------------------------------------------------------------------------------------------
 //
@@ -132,7 +172,8 @@ static inline bool palmrummy_has_node(uint32_t number) {
 #define PALMRUMMY_VERDICT_UNRANGED 40
 #define PALMRUMMY_VERDICT_FORM 48
 
-// How many bytes a packed query has, told from its header. Use it on the form of a verdict, whose header is always right.
+// How many bytes a packed query has, told from its header. Use it on the form of a verdict, or on a packed rule, whose
+// headers are always right.
 static inline size_t palmrummy_query_length(const uint8_t *query) {
     size_t header = (size_t)query[0] << 8 | query[1];
     return 2 + 4 * (header % 32) + 4 * (header / 32 % 128);
@@ -158,21 +199,26 @@ static inline uint32_t palmrummy_value(const uint8_t *out, size_t i) {
 // ---- The entries ---------------------------------------------------------------------------------------------------
 //
 // What is written and what is left:
-// - The input is only read, and nothing past its length.
+// - The input and the text are only read, and nothing past their length.
 // - A refusal leaves every byte of the lent output as it was. So does an endless answer.
+// - A packed rule writes all 322 bytes of the lent query, zeros past the packed one, and leaves the lent place as it
+//   was. A refused rule writes the place, and leaves the query as it was.
 // - A verdict writes all 370 bytes.
 // - An answer writes rows × columns × 4 bytes; the rest of the lent output is as it was.
-// - The reply and the bytes written depend on the input and the output's length, never on what was in the output.
+// - The reply and what is written depend on the input or text and the output's length, never on what was in the output.
 //
 // What the caller must ensure:
-// - Pointers must be non-null, even for length 0. Any alignment will do.
+// - Pointers must be non-null, even for length 0. Any alignment will do for bytes; a lent place is aligned as its type.
 // - The output is writable, overlaps nothing of the input, and nobody else reads or writes it during the call. Nobody
-//   writes the input during the call.
+//   writes the input during the call. The same holds of a lent query and place, which don't overlap, and of the text.
 // - There is stack for the call: docs/ARCHITECTURE.md says how much.
 //
 // There is no other state: no global variables, no heap, no files. Calls may be made at once from any number of
 // threads, also over the same input, each with an output of its own. Every call returns, whatever the bytes are; how
 // long an answer takes depends on the query.
+
+// The packed query of a rule, at the front of `query`; or the place of its refusal.
+uint32_t palmrummy_rule(const uint8_t *text, size_t length, uint8_t query[PALMRUMMY_QUERY_MOST], uint64_t place[1]);
 
 // The verdict on the query of a packed input.
 uint32_t palmrummy_verdict(const uint8_t *input, size_t length, uint8_t out[PALMRUMMY_VERDICT]);

@@ -1,5 +1,6 @@
 #!/usr/bin/env python3
 """The examples and the list program: each examples file is what its texts and the account in lines.py give, and the program writes what that account says.
+A rule of the examples, packed by rule_reader.py, has the lines of the query text that says the same.
 
 catalogue.py                  compares the examples, and the program on them and on named edges
 catalogue.py --random N       also every beginning of the first example and N random inputs, valid and damaged
@@ -26,8 +27,10 @@ import answers
 import cases
 import lines
 import menu
+import menu_pack
 import options
 import report
+import rule_reader
 import streams
 import verdicts
 
@@ -57,11 +60,20 @@ def examples():
         yield query.stem, store, query, query.with_suffix(".bin"), query.with_suffix(".expected")
 
 
+def rules():
+    """Name, store text, query text, rule and expected output of each line of the examples that is there as a rule, as paths."""
+    store = EXAMPLES / "catalogue" / "store.txt"
+    for rule in [*sorted((EXAMPLES / "catalogue").glob("*.rule")), *sorted((EXAMPLES / "rules").glob("*.rule"))]:
+        yield f"{rule.parent.name}/{rule.name}", store, rule.with_suffix(".txt"), rule, rule.with_suffix(".expected")
+
+
 def write_examples():
     (EXAMPLES / "catalogue" / "store.txt").write_text(made_store())
     for _, store, query, binary, expected in examples():
         binary.write_bytes(menu.pack(store.read_text(), query.read_text(), most_columns=16))
         expected.write_bytes(lines.lines(binary.read_bytes()))
+    for _, store, query, _, expected in rules():
+        expected.write_bytes(lines.lines(menu.pack(store.read_text(), query.read_text())))
 
 
 def made_store():
@@ -82,6 +94,28 @@ def check_example(name, store, query, binary, expected):
     compare(name, f"menu.py packs {store.name} and {query.name} otherwise", data, packs, binary.name, "menu.py pack")
     compare(name, "what menu.py shows of it is packed otherwise", data, attempt(menu.pack_one, menu.show(data)[0]), binary.name, "menu.py show, and pack")
     compare(name, "lines.py gives other lines", expected.read_bytes(), lines.lines(data), expected.name, "lines.py")
+
+
+def without_place(output):
+    """An output as it is, but a refusal without its place: a rule's nodes have other numbers than those of a query text."""
+    return re.sub(rb"(refused [0-9]+) [0-9]+", rb"\1", output)
+
+
+def check_rule(program, name, store, query, rule, expected):
+    """A rule and the query text beside it: both have the lines expected, and the program writes those of the rule."""
+    missing = [path.name for path in (query, expected) if not path.is_file()]
+    if missing:
+        return fail(name, f"{', '.join(missing)} not there")
+    text, wanted = rule.read_bytes(), expected.read_bytes()
+    packed_rule, place = rule_reader.read_rule(text.removesuffix(b"\n"))
+    if place is not None or not text.endswith(b"\n"):
+        return fail(name, f"refused 20 {place}" if place is not None else "no line feed at the end")
+    by_text = menu.pack(store.read_text(), query.read_text())
+    data = menu_pack.Store(store.name, store.read_text()).packed() + packed_rule
+    compare(name, "lines.py gives other lines for the query text", wanted, lines.lines(by_text), expected.name, "lines.py")
+    compare(name, "lines.py gives other lines", without_place(wanted), without_place(lines.lines(data)), expected.name, "lines.py")
+    if program:
+        check_program(program, name, data, lines.lines(data))
 
 
 # Document 01's packed query over its store S, and its output.
@@ -480,11 +514,14 @@ def main():
         fail("the program", f"{given.program} is not there")
     check_store()
     stock = check_examples(program)
+    as_rules = list(rules())
+    for line in as_rules:
+        check_rule(program, *line)
     edges = [*worked_cases(), *limit_cases()]
     for name, data, wanted in edges:
         check_input(program, name, data, wanted)
     streams = check_streams(program, stock[0], FIRST_OUTPUT) if program and stock else 0
-    ran = f"{len(stock)} examples, {len(edges)} edges, {streams} ways to be read and written"
+    ran = f"{len(stock)} examples, {len(as_rules)} rules, {len(edges)} edges, {streams} ways to be read and written"
     if given.random:
         for length in range(len(stock[0])):  # 18 bytes and three records end at 69; then come the query's header and its rest
             cause = 2 if length < 69 else 3 if length < 71 else 5

@@ -33,14 +33,16 @@ PROGRAMS = {"menu_line": ["examples/menu_line.c"], "host_fuzz": ["tests/host_fuz
 VALGRIND = ["valgrind", "-q", "--error-exitcode=99"]
 PATIENCE = 900  # seconds
 
-# The entries from C++: an empty input is refused 2.
+# The entries from C++: an empty input is refused 2, an empty rule 20 at its length.
 CPP = """#include "palmrummy.h"
 int main() {
     uint8_t input[1] = {0}, out[PALMRUMMY_VERDICT] = {0};
     uint32_t verdict = palmrummy_verdict(input, 0, out);
-    uint64_t answer = palmrummy_answer(input, 0, out, sizeof out);
+    uint64_t answer = palmrummy_answer(input, 0, out, sizeof out), place[1] = {7};
+    uint32_t rule = palmrummy_rule(input, 0, out, place);
     return palmrummy_verdict_is_refused(verdict) && palmrummy_refusal_number(verdict) == 2 &&
-           palmrummy_answer_is_refused(answer) && palmrummy_refusal_number(answer) == 2 ? 0 : 1;
+           palmrummy_answer_is_refused(answer) && palmrummy_refusal_number(answer) == 2 &&
+           palmrummy_rule_is_refused(rule) && palmrummy_refusal_number(rule) == 20 && place[0] == 0 ? 0 : 1;
 }
 """
 

@@ -7,7 +7,8 @@ menu_texts.py --random N       N random queries (300), and those with few variab
 menu_texts.py --seed N         others than those of seed 1
 menu_texts.py --write          writes menu_texts.expected anew: run and explain on the examples and on document 01's worked cases
 
-Exit status 1 where anything differs. Reasons are held against verdicts.py, columns that can be anything against answers.py, lists against lines.py.
+Exit status 1 where anything differs. Reasons are held against verdicts.py, columns that can be anything against answers.py, lists against lines.py; whether a
+rule is past a limit against rule_reader.py, over the texts of rules.py.
 """
 import contextlib
 import functools
@@ -34,8 +35,11 @@ import menu
 import menu_engine
 import menu_explain
 import menu_nodes
+import menu_rule
 import options
 import report
+import rule_reader
+import rules
 import verdicts
 
 FAILED = []
@@ -231,6 +235,121 @@ def check_texts():
     return len(FORMS) + len(REFUSED_QUERIES) + len(REFUSED_STORES) + len(REFUSED_TEXTS)
 
 
+# ---- rules
+
+RULES = [
+    # rule, a query text with the same packed query
+    ("q(X0,X1):-r0(X0,X1),not r1(X0).", "joint(v0, v1) and not weld(v0)"),
+    ("q(X2):-r0(X2,X5),r1(X5),X3 = 7.", "exists v3 exists v5 (joint(v2, v5) and weld(v5) and v3 = 7)"),
+    ("q:-r0(9,X0),r0(7,X0),X0 = X0.", "exists v0 (joint(9, v0) and joint(7, v0) and v0 = v0)"),
+    ("q(X0):-X0 = 4294967295.", "v0 = 4294967295"),
+]
+GOAL = "a goal should stand: a relation such as r3(X0,17), the same after not, or an equality such as X0 = 17"
+RULE_TERM = "a term should stand: a variable such as X0, or a number"
+RULE_END = "the rule should end: only one line feed may follow its full stop"
+SPACES = "; the only spaces are the one after not and the two around ="
+LIMIT = "the rule is past a limit: "
+REFUSED_RULES = [
+    # rule, column, what is said
+    (b"", 1, "read the end of the rule where 'q' should stand"),
+    (b"\n", 1, "read the end of the rule where 'q' should stand"),
+    (b"# all\nq(X0):-r1(X0).", 1, "read '#' where 'q' should stand; a rule has no comments"),
+    (b"\xef\xbb\xbfq(X0):-r1(X0).", 1, "read '\\ufeff' where 'q' should stand"),
+    (b"q", 2, "read the end of the rule where '(' or ':' should stand"),
+    (b"q():-r1(X0).", 3, "read ')' where a variable should stand, such as X0"),
+    (b"q(X):-r1(X0).", 4, "read ')' where a digit should stand"),
+    (b"q(X00):-r1(X0).", 5, "read '0' where ')' or ',' should stand; numbers have no leading zeros"),
+    (b"q(X0) :-r1(X0).", 6, f"read ' ' where ':' should stand{SPACES}"),
+    (b"q(X0):-", 8, f"read the end of the rule where {GOAL}"),
+    (b"q(X0):- r1(X0).", 8, f"read ' ' where {GOAL}{SPACES}"),
+    (b"q(X0):-weld(X0).", 8, f"read 'w' where {GOAL}"),
+    (b"q(X0):-not X0 = 1.", 12, "read 'X' where 'r' should stand"),
+    (b"q(X0):-X0=1.", 10, "read '=' where ' ' should stand"),
+    (b"q(X0):-r1().", 11, f"read ')' where {RULE_TERM}"),
+    (b"q(X0):-r1(\xff).", 11, f"read byte ff where {RULE_TERM}"),
+    (b"q(X0):-r1(\xc3\xa4).", 11, f"read '\u00e4' where {RULE_TERM}"),
+    (b"q(X0):-r1(\0).", 11, f"read '\\x00' where {RULE_TERM}"),
+    (b"q(X0):-r1(X0,17", 16, "read the end of the rule where a digit, ')' or ',' should stand"),
+    (b"q(X0):-r1(X0)", 14, "read the end of the rule where ',' or '.' should stand"),
+    (b"q(X0):-r1(X0)\n.", 14, "read '\\n' where ',' or '.' should stand"),
+    (b"q(X0):-r1(X0).\n\n", 15, f"read '\\n' where {RULE_END}"),
+    (b"q(X0):-r1(X0).\r\n", 15, f"read '\\r' where {RULE_END}"),
+    (b"q(X0):-r1(X0). \n", 15, f"read ' ' where {RULE_END}{SPACES}"),
+    (b"q(X0):-r1(X0).q:-r1(1).\n", 15, f"read 'q' where {RULE_END}"),
+    (b"q(X16):-r1(X16).", 17, f"{LIMIT}X16 is over X15"),
+    (b"q(X0):-r16(X0).\n", 16, f"{LIMIT}r16 is over r15"),
+    (b"q(X0):-X0 = 4294967296.", 24, f"{LIMIT}4294967296 is over 4294967295"),
+    (b"q:-r1(" + b"9" * 5000 + b").", 5009, f"{LIMIT}{'9' * 20} is over 4294967295"),
+    (b"q(X0,X1,X2,X3,X4):-r1(X0,X1,X2),r1(X3,X4).", 43, f"{LIMIT}the head has 5 variables, and a list has at most 4 columns"),
+    (b"q(X0,X3):-r1(X0).", 18, f"{LIMIT}X3 stands in the head and in no goal"),
+    (b"q(X0,X0):-r1(X0).", 18, f"{LIMIT}X0 stands in the head twice"),
+    (b"q(X10,X2):-r1(X10,X2).", 23, f"{LIMIT}X2 stands in the head after X10, and a head ascends"),
+    (b"q:-not r1(1,1,1,1,1).", 22, f"{LIMIT}not r1 has 5 terms, and a record has at most 4 values"),
+    (b"q:-" + b",".join(b"r1(%d)" % i for i in range(17)) + b".", 113, f"{LIMIT}it has 17 different numbers, and 16 are the most"),
+    (b"q:-" + b"not r1(X0)," * 21 + b"r1(X0).", 242, f"{LIMIT}it packs into 65 nodes, and 64 are the most"),
+]
+
+
+def check_rules(engine, library):
+    """Rules, packed as query texts are or refused in words; how many were tried."""
+    for rule, query in RULES:
+        for end in "", "\n":
+            came = told(lambda *texts: menu_rule.read_rule(*texts).data, engine.rule, STORE, (rule + end).encode())
+            compare(f"the rule {rule!r}", told(menu.pack, STORE, query), came)
+    for rule, column, said in REFUSED_RULES:
+        place = f" (refused 20 {column - 1})"
+        compare(f"the rule {rule[:60]!r}", f"the rule, line 1, column {column}: {said}{place}", told(menu_rule.read_rule, engine.rule, STORE, rule))
+    texts = [text.encode() for _, text in [*rules.within(), *rules.past()]] + [rules.random_rule(random.Random(i)) for i in range(200)]
+    for text in texts:  # the words name a limit where there is one
+        compare(f"whether {text[:60]!r} is past a limit", rule_reader.read_rule(text)[0] is None, any(menu_rule.limits(text)))
+    return len(RULES) * 2 + len(REFUSED_RULES) + len(texts) + check_rule_files(library)
+
+
+RULE_LIST, QUERY_LIST = b"safe\nX2\n 7\n1 row\n", b"safe\nx (v0)\n     7\n1 row\n"
+Q_STORE = STORE.replace("weld", "q")
+
+
+def check_rule_files(library):
+    """Where a rule is taken for one; how many ways were tried."""
+    with tempfile.TemporaryDirectory() as name:
+        folder = pathlib.Path(name)
+        for file, text in (("s.txt", STORE), ("q.txt", Q_STORE), ("a.rule", "q(X2):-r1(X2).\n"), ("a.txt", "q(X2):-r1(X2).\n"), ("b.rule", "weld(x)\n")):
+            (folder / file).write_text(text)
+        store, with_q, a, b, other = (folder / file for file in ("s.txt", "q.txt", "a.rule", "b.rule", "a.txt"))
+        tried = [
+            # words, standard input, the list or what is said
+            ([store, a], "", RULE_LIST),
+            ([store, "-"], "q(X2):-r1(X2).\n", RULE_LIST),
+            ([store, "-"], "q(X2):-r1(X2).", RULE_LIST),
+            (["-", a], STORE, RULE_LIST),
+            (["-"], f"{STORE}query\nq(X2):-r1(X2).\n", RULE_LIST),
+            (["-"], f"{STORE} query # a rule\nq:-r1(7).", b"safe\nno columns\n1 row: yes\n"),
+            (["-"], f"{Q_STORE}query\nq(X2):-r1(X2).\n", RULE_LIST),
+            (["-"], f"{Q_STORE}query\nq(x) # not :-\n", QUERY_LIST),
+            ([with_q, "-"], "q(x)\n", QUERY_LIST),
+            ([store, other], "", f"{other}, line 1, column 1: read 'q' where a relation should stand: the store text has joint and weld"),
+            ([store, b], "", f"{b}, line 1, column 1: read 'w' where 'q' should stand (refused 20 0)"),
+            ([a], "", f"{a} is a rule without a store: name the store text before it"),
+            (["-"], f"{STORE}query\nq(X2):-r1(X2)\n", "-, line 7, column 14: read the end of the rule where ',' or '.' should stand (refused 20 13)"),
+            (["-"], f"{STORE}query\nq(X2)\n", "-, line 7, column 6: read the end of the rule where ':' should stand (refused 20 5)"),
+            (["-"], f"{STORE}query\n\nq(X2):-r1(X2).\n", "-, line 8, column 1: read 'q' where a relation should stand: the store text has joint and weld"),
+            (["-", a], "relation 16 a 1", "-, line 1, column 10: read '16' where a relation's number should stand: 0 to 15"),
+        ]
+        for words, text, wanted in tried:
+            came = command("run", *words, "--library", library, data=text.encode())
+            compare(f"run {words} {text!r}", (0, wanted, "") if isinstance(wanted, bytes) else (2, b"", f"menu.py: {wanted}\n"), came)
+        data = menu.pack(STORE, "weld(v2)")
+        compare("pack of a rule", (0, data, ""), command("pack", store, a, "--library", library))
+        came = command("pack", store, a, "-o", folder / "a.bin", "--library", library)
+        compare("pack -o of a rule", (0, b"", "", data), (*came, (folder / "a.bin").read_bytes()))
+        compare("pack of a rule without an engine", (2, b"", f"menu.py: {NO_LIBRARY}\n"), command("pack", store, a, "--library", NOWHERE))
+        compare("pack of a query text without an engine", (0, PACKED, ""), command("pack", "-", "--library", NOWHERE, data=GOOD))
+        crowd = "relation 0 a 1\n" + "a 1\n" * 481
+        said = "-, line 482, column 1: more than 480 records, with which an input is over 8192 bytes: give each record once"
+        compare("pack of a rule over too many records", (2, b"", f"menu.py: {said}\n"), command("pack", "-", a, "--library", library, data=crowd.encode()))
+    return len(tried) + 5
+
+
 # ---- files and exit statuses
 
 # A child process whose files may have 20 bytes.
@@ -375,6 +494,8 @@ def stored_cases():
         for query in sorted((EXAMPLES / "catalogue").glob("[0-9][0-9]-*.txt")):
             files = [query.with_suffix(".bin")] if query.stem == "11-five-columns" else [EXAMPLES / "catalogue" / "store.txt", query]
             yield f"{name} {query.stem}", [name, *files], ""
+        for rule in [*sorted((EXAMPLES / "catalogue").glob("*.rule")), *sorted((EXAMPLES / "rules").glob("*.rule"))]:
+            yield f"{name} {rule.parent.name}/{rule.name}", [name, EXAMPLES / "catalogue" / "store.txt", rule], ""
         for query in WORKED:
             yield f"{name} over S: {query}", [name, "-"], f"{STORE}query\n{query}\n"
         for query in WORKED_OVER_NONE:
@@ -420,7 +541,7 @@ def check_readme(library):
     rows = [tuple(map(str.strip, line.strip("|").split("|"))) for line in text.split("\n") if re.match(r"\| [0-9]+ \|", line)]
     table = [(str(number), *words) for number, words in menu_engine.CAUSES.items()]
     compare("README.md's table of refusals", "\n".join(map(" | ".join, table)) + "\n", "\n".join(map(" | ".join, rows)) + "\n")
-    header = re.findall(r"^//   ([0-9]+) +(?:0|a node) ", (HERE / "include" / "palmrummy.h").read_text(), re.MULTILINE)
+    header = re.findall(r"^//   ([0-9]+) +(?:0|a node|a byte) ", (HERE / "include" / "palmrummy.h").read_text(), re.MULTILINE)
     compare("the numbers of include/palmrummy.h's table", [number for number, *_ in table], header)
     shown = re.findall(r"^    (examples/menu\.py (?:run|explain) .*)\n\n.*\n\n((?:    .*\n)+)", text, re.MULTILINE)
     if not shown:
@@ -822,7 +943,7 @@ def main():
         return 1
     if given.write:
         STORED.write_text("".join(f"== {title}\n{text}" for title, text in outputs(given.library)))
-    texts, words = check_texts(), check_output_file() + check_words(given.library)
+    texts, words = check_texts() + check_rules(engine, given.library), check_output_file() + check_words(given.library)
     check_library(given.library)
     stored = check_stored(given.library)
     check_packed_alike(given.library)

@@ -1,6 +1,7 @@
 pub mod Sets
 pub mod Reflects
 pub mod Lists
+pub mod Decimal
 pub mod Formula
 pub mod Satisfaction
 pub mod Propagation

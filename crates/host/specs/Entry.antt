@@ -1,5 +1,6 @@
 -- What the host's entries return and write, as include/palmrummy.h has it. Numbers are written high byte first. Definitions only; the laws are in Entry/Laws.antt.
 use Prim.Native.Nat.{ℕ, _+_, _*_, _/_, _%_, _^_}
+use mathlib.Core.Path.{_≡_}
 use mathlib.Core.Bool.{Bool, cond}
 use mathlib.Core.List.{List, [], _∷_, _++_}
 use lib.ListN.{length, drop}
@@ -12,6 +13,9 @@ use Rattle.causes.specs.Causes.{first-cause, number, place}
 use Rattle.query.specs.declared.Query.{Query}
 use Rattle.query.specs.Reading.{pool, nodes-in}
 use Rattle.query.specs.Packing.{word-bytes, packed-bytes}
+use Rattle.rules.specs.declared.Packing.{Packing}
+use Rattle.rules.specs.Grammar.{Parse}
+use Rattle.rules.specs.Reply.{packing}
 use Rattle.verdict.specs.declared.Verdict.{Verdict}
 use Rattle.answer.specs.Reply.{row-bytes}
 use Rattle.packed.specs.Packed.{judged-of, result-in, list-checks}
@@ -87,3 +91,19 @@ answer-reply (Refused n p) found out = (answer-refusal (Refused n p), out)
 
 abbrev pub answer-entry : List ℕ → List ℕ → ℕ × List ℕ
 answer-entry bs out = answer-reply (first-cause (list-checks bs (room-in (length out)))) (result-in bs) out
+
+-- ---- the rules
+
+-- A refusal of a rule's text: 2^31 + 256 × number. The place is a number of its own.
+abbrev pub rule-refusal : ℕ → ℕ
+rule-refusal n = 2 ^ 31 + 256 * n
+
+-- What the rules' entry returns and leaves in the lent output and the lent place: the number of bytes of the packed query, and the query with zeros past it; or a
+-- refusal and its place.
+abbrev pub rule-reply : Answer → Packing → List ℕ → List ℕ → ℕ × (List ℕ × List ℕ)
+rule-reply Done p out place = (p .size, (p .bytes, place))
+rule-reply (Refused n q) p out place = (rule-refusal n, (out, q ∷ []))
+
+-- The entry's reply to the text bs: that of what the text is.
+abbrev pub RuleEntry : List ℕ → List ℕ → List ℕ → ℕ × (List ℕ × List ℕ) → Type 0
+RuleEntry bs out place r = (P : Parse bs) → r ≡ rule-reply (packing P .answer) (packing P) out place

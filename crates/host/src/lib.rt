@@ -1,14 +1,16 @@
-// The host's entries: the verdict and the answers over a packed input, with numbers and byte runs only. include/palmrummy.h is their C side: the layout of
+// The host's entries: the verdict and the answers over a packed input, and the query of a rule's text, with numbers and byte runs only. include/palmrummy.h is their C side: the layout of
 // every byte written, and the meaning of every number returned.
 mod bytes;
 
 use causes::Answer;
+use query::write;
+use rules::PACKED;
 use verdict::Verdict;
 ghost use mathlib.Core.Path.{_≡_};
 ghost use Prim.Native.Nat.{_<_};
 ghost use Rattle.causes.specs.declared.Answer.the-variants.{Refused};
 ghost use Rattle.query.specs.Reading.{max-nodes};
-ghost use Rattle.host.specs.Entry.{code, verdict-bytes, verdict-entry, answer-entry};
+ghost use Rattle.host.specs.Entry.{code, verdict-bytes, verdict-entry, answer-entry, RuleEntry};
 ghost use Rattle.host.specs.Code.Entry.{Writable};
 
 // The bytes of a verdict.
@@ -51,7 +53,7 @@ fn written(v: Verdict) -> [u8; VERDICT]
     reply[39] = (v.ungenerated % 256) as u8;
     bytes::long(v.unranged, &mut reply, 40);
     let form = v.form;
-    bytes::form(form, &mut reply, 48);
+    write::query(form, &mut reply, 48);
     reply
 }
 
@@ -83,4 +85,20 @@ pub extern "C" fn palmrummy_answer(input: &[u8], out: &mut [u8]) -> u64
         return ENDLESS;
     }
     listing.rows as u64
+}
+
+// The query of a rule's text: cause 20, its place in a number of its own.
+#[no_mangle]
+pub extern "C" fn palmrummy_rule(text: &[u8], out: &mut [u8; PACKED], place: &mut [u64; 1]) -> u32
+    ensures { λ r. ⌜ RuleEntry (now (text .entry)) (now (out .entry)) (now (place .entry)) (r, (now (out .exit), now (place .exit))) ⌝ }
+{
+    let p = rules::pack(text);
+    let answer = p.answer;
+    if let Answer::Refused(number, at) = answer {
+        *place = [at];
+        return REFUSED + 256 * number as u32;
+    }
+    let bytes = p.bytes;
+    *out = bytes;
+    p.size as u32
 }

@@ -1,10 +1,10 @@
 -- What the list program prints: document 01, "The list program and the host". Bytes are ASCII. Definitions only; the laws are in Text/.
-use Prim.Native.Nat.{ℕ, zero, suc, _+_, _/_, _%_, _*_, _-_}
+use Prim.Native.Nat.{ℕ, _+_, _*_, _-_}
 use mathlib.Core.Bool.{Bool, cond}
 use mathlib.Core.List.{List, [], _∷_, _++_}
 use lib.ListN.{length, drop, replicate}
-use lib.Dec.{ltb}
 use Rattle.calculus.specs.Sets.{union-of}
+use Rattle.calculus.specs.Decimal.{digits}
 use Rattle.calculus.specs.Generators.{columns, verdict, safe}
 use Rattle.calculus.specs.Rows.{Result, endless, listed}
 use Rattle.causes.specs.declared.Answer.{Answer}
@@ -23,11 +23,6 @@ abbrev pub room : ℕ
 room = 4096
 
 -- ---- numbers
-
--- The decimal digits of a number, of k digits at most: without zeros in front, one digit at least.
-abbrev pub digits : ℕ → ℕ → List ℕ
-digits zero n = []
-digits (suc k) n = cond (ltb n 10) [] (digits k (n / 10)) ++ ((48 + n % 10) ∷ [])
 
 -- A number of at most ten digits: every value, number, place and count has no more.
 unfoldable pub decimal : ℕ → List ℕ

@@ -5,7 +5,8 @@ ghost use mathlib.Core.List.{_∷_, []};
 ghost use mathlib.Core.Bool.{cond};
 ghost use Prim.Native.Nat.{_+_, _*_, _≤_, _<_};
 ghost use lib.ListN.{length, take, drop};
-ghost use Rattle.lines.specs.Text.{digits, decimal, spaced, line as line-text, word-safe, word-unsafe};
+ghost use Rattle.calculus.specs.Decimal.{digits};
+ghost use Rattle.lines.specs.Text.{decimal, spaced, line as line-text, word-safe, word-unsafe};
 ghost use Rattle.lines.specs.Code.Text.{wrote};
 
 // A word.

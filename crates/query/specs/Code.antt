@@ -2,3 +2,4 @@
 pub mod Fields
 pub mod Free
 pub mod Judging
+pub mod Writing

@@ -15,6 +15,7 @@ use Rattle.query.specs.Reading.{max-nodes, max-constants, max-columns}
 pub mod Bytes
 pub mod Fields
 pub mod Trees
+pub mod Widths
 pub mod Numbering
 pub mod Laws
 

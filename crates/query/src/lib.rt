@@ -2,12 +2,14 @@
 //
 // A packed query is a header of 16 bits (version 4, node count 7, constant count 5), then 32-bit constants, then 32-bit nodes, high byte first. The nodes
 // are a tree: the last one is the root, and a child's number is below its parent's. The reader judges any bytes (causes 1 and 3 to 10) and hands back the
-// constants and nodes of those that it accepts, with the query's columns. The crates above look at a node, and write one, by `node` alone.
+// constants and nodes of those that it accepts, with the query's columns. The crates above look at a node, and write one, by `node` alone. They write a query as
+// bytes by `write`.
 mod fault;
 mod free;
 mod judge;
 pub mod node;
 mod unpack;
+pub mod write;
 
 use causes::Answer;
 use causes::RELATIONS;

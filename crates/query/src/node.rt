@@ -4,9 +4,9 @@
 ghost use mathlib.Core.Path.{_≡_};
 ghost use Prim.Native.Nat.{_≤_, _<_};
 ghost use mathlib.Core.List.{[], _∷_};
-ghost use lib.ListN.{take};
+ghost use lib.ListN.{getD, take};
 ghost use Rattle.calculus.specs.Sets.{any-of};
-ghost use Rattle.query.specs.Nodes.{not-word, join-word, exists-word};
+ghost use Rattle.query.specs.Nodes.{record-word, equality-word, not-word, join-word, exists-word};
 ghost use Rattle.query.specs.Reading.{max-nodes};
 ghost use Rattle.query.specs.Code.Fields.{NodeOf, rest-of, itself};
 
@@ -62,6 +62,25 @@ pub fn rest(w: u32) -> u32
         6 => w % 524288,
         _ => 0,
     }
+}
+
+// A record of the first `count` terms. Past them the caller hands over zeros: the reader refuses others (cause 6).
+pub fn membership(relation: u32, count: u32, terms: [u32; 4]) -> u32
+    requires { ⌜ (relation < 16) × (count < 8) × (getD terms 0 0 < 32) × (getD terms 1 0 < 32) × (getD terms 2 0 < 32) × (getD terms 3 0 < 32) ⌝ }
+    ensures { λ w. ⌜ w ≡ record-word relation count (getD terms 0 0) (getD terms 1 0) (getD terms 2 0) (getD terms 3 0) ⌝ }
+{
+    536870912
+        + relation * 33554432
+        + count * 4194304
+        + (terms[0] * 131072 + terms[1] * 4096 + terms[2] * 128 + terms[3] * 4)
+}
+
+// An equality of a variable and a term.
+pub fn equality(variable: u32, term: u32) -> u32
+    requires { ⌜ (variable < 16) × (term < 32) ⌝ }
+    ensures { λ w. ⌜ w ≡ equality-word variable term ⌝ }
+{
+    2 * 536870912 + variable * 33554432 + term * 1048576
 }
 
 // A not over a node.

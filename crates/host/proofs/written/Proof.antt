@@ -8,11 +8,11 @@ use mathlib.Core.List.{List, [], _∷_, _++_}
 use lib.ListN.{length, getD, replicate, length-set}
 use Rattle.calculus.specs.Sets.{union-of}
 use Rattle.calculus.specs.Lists.{padded}
+use Rattle.query.specs.Code.Writing.{overlay}
+use Rattle.query.specs.Code.Writing.Laws.{front-run, front-padded, length-query}
 use Rattle.verdict.specs.declared.Verdict.{Verdict}
-use Rattle.answer.specs.Code.Listing.{overlay}
 use Rattle.host.specs.Entry.{flag, short-bytes, long-bytes, form-bytes, verdict-fields, verdict-size}
 use Rattle.calculus.specs.Lists.Laws.{four-of}
-use Rattle.host.specs.Entry.Laws.{front-run, front-padded, length-form}
 use Rattle.host.proofs.written.Statement.{statement}
 use Rattle.host.proofs.written.Tie as tie
 
@@ -161,11 +161,11 @@ slice-aggregate-long-5 c = search needs
 long-requires-5 : tie.Need-long-requires-5
 long-requires-5 c κs = simp length-set (omega arith)
 
-slice-aggregate-form : tie.Need-slice-aggregate-form
-slice-aggregate-form c = search needs
+slice-aggregate-query : tie.Need-slice-aggregate-query
+slice-aggregate-query c = search needs
 
-form-requires : tie.Need-form-requires
-form-requires c κs = search needs
+query-requires : tie.Need-query-requires
+query-requires c κs = search needs
 
 returns : tie.Need-returns
 returns c =
@@ -185,9 +185,9 @@ returns c =
     let e₃₈ = l₄ .long4 .ensures ∙ front-run (until-30 v) zeros _ 30 e₃₀ refl (generators v 3) in
     let e₄₀ = front-run (until-38 v) zeros _ 38 e₃₈ refl (short-bytes (v .ungenerated)) in
     let e₄₈ = l₅ .long5 .ensures ∙ front-run (until-40 v) zeros _ 40 e₄₀ refl (long-bytes (v .unranged)) in
-    e .form2 .ensures
+    e .query .ensures
     ∙ front-run (until-48 v) zeros _ 48 e₄₈ refl (form-bytes (v .form))
-    ∙ front-padded verdict-size (until-48 v ++ form-bytes (v .form)) (omega (arith, length-form (v .form) (s .pre .1)))
+    ∙ front-padded verdict-size (until-48 v ++ form-bytes (v .form)) (omega (arith, length-query (v .form) (s .pre .1)))
     ∙ ap (λ bs. padded verdict-size 0 (bs ++ form-bytes (v .form))) (all-fields v (variables-long s) (generators-long s))
 
 pub written-spec : {M : Type 1} → statement M
@@ -223,6 +223,6 @@ written-spec =
     array-write-reply-8
     slice-aggregate-long-5
     long-requires-5
-    slice-aggregate-form
-    form-requires
+    slice-aggregate-query
+    query-requires
     returns)

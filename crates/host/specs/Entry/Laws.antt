@@ -1,75 +1,32 @@
--- Laws of the entries: numbers written one after the other, and the replies by what was found.
-use Prim.Native.Nat.{ℕ, _+_, _*_, _/_, _%_, _≤_, _<_, _^_}
-use native.Mathlib.Nat.{min-le-left}
+-- Laws of the entries: the replies by what was found.
+use Prim.Native.Nat.{ℕ, _+_, _/_, _%_, _<_, _^_}
 use native.Mathlib.Omega.{arith}
-use native.Mathlib.Numerals.{add-one}
 use mathlib.Core.Path.{_≡_, refl, sym, ap, subst, subst⁻¹, _∙_}
 use mathlib.Core.Bool.{Bool, true, false}
-use mathlib.Core.List.{List, [], _∷_, _++_}
-use lib.ListN.{length, getD, take, replicate, length-replicate, length-append, length-take}
-use lib.Seq.{take-suc, length-take-le}
-use Rattle.calculus.specs.Sets.{union-of}
-use Rattle.calculus.specs.Sets.Laws.{union-append}
+use mathlib.Core.List.{List, [], _∷_}
+use lib.ListN.{length, getD}
 use Rattle.calculus.specs.Lists.{padded}
-use Rattle.calculus.specs.Lists.Laws.{drop-replicate}
 use Rattle.calculus.specs.Rows.{Row, Result, endless, listed}
 use Rattle.causes.specs.declared.Answer.{Answer}
 use Rattle.causes.specs.declared.Answer.the-variants.{Done, Refused}
 use Rattle.causes.specs.Causes.{first-cause, number, place}
 use Rattle.causes.specs.Causes.Laws.{refused-place}
 use Rattle.query.specs.declared.Query.{Query}
-use Rattle.query.specs.Reading.{max-nodes, max-constants, constants-of, nodes-of, pool, nodes-in}
+use Rattle.query.specs.Reading.{max-nodes, max-constants, constants-of, nodes-of, pool}
 use Rattle.query.specs.Accepted.Laws.{read-done, pool-of, reading-accepted}
-use Rattle.query.specs.Packing.{word-bytes}
-use Rattle.query.specs.Packing.Bytes.{length-bytes}
 use Rattle.verdict.specs.declared.Verdict.{Verdict}
 use Rattle.verdict.specs.Verdict.{judged}
 use Rattle.verdict.specs.Form.Laws.{form-accepted}
-use Rattle.answer.specs.Code.Listing.{overlay}
-use Rattle.answer.specs.Code.Listing.Laws.{overlay-append, overlay-front}
 use Rattle.answer.specs.Reply.{front-bytes}
 use Rattle.packed.specs.declared.Listing.{Listing}
 use Rattle.packed.specs.Packed.{widths-in, query-in, query-read, input-checks, judged-reply, judged-of, result-in, list-checks, listing-reply, byte-listing-of}
 use Rattle.packed.specs.Packed.Laws.{query-accepted, input-few}
 use Rattle.packed.specs.Packed.Places.{judged-place, listing-place, listing-refused}
 use Rattle.packed.specs.Packed.Told.{rows-fit}
-use Rattle.host.specs.Entry.{code, code-endless, answer-refusal, form-bytes, verdict-bytes, verdict-reply, verdict-entry, room-in, answer-reply, answer-entry}
-use Rattle.host.specs.Code.Entry.{Few, Writable}
-
--- ---- written from a place on: xs so far, then more
-
-pub then-run : (at : ℕ) (xs ys zs out : List ℕ) (k : ℕ) → out ≡ overlay at xs zs → at + length xs ≡ k → overlay k ys out ≡ overlay at (xs ++ ys) zs
-then-run at xs ys zs out k e l = (λ i. overlay (sym l i) ys (e i)) ∙ sym (overlay-append at xs ys zs)
-
--- From the front on.
-pub front-run : (xs zs out : List ℕ) (at : ℕ) → out ≡ overlay 0 xs zs → length xs ≡ at → (ys : List ℕ) → overlay at ys out ≡ overlay 0 (xs ++ ys) zs
-front-run xs zs out at e l ys = then-run 0 xs ys zs out at e (omega (arith, l))
-
--- Over zeros, they are filled up with zeros.
-pub front-padded : (n : ℕ) (xs : List ℕ) → length xs ≤ n → overlay 0 xs (replicate n 0) ≡ padded n 0 xs
-front-padded n xs h = overlay-front xs (replicate n 0) (omega (arith, length-replicate {A = ℕ} n 0)) ∙ ap (λ r. xs ++ r) (drop-replicate n (length xs) 0)
-
--- ---- the bytes of a list of numbers
-
--- One number more.
-pub next-word : (list : List ℕ) (i : ℕ) → i < length list → union-of word-bytes (take (i + 1) list) ≡ union-of word-bytes (take i list) ++ word-bytes (getD list i 0)
-next-word list i h =
-    ap (λ k. union-of word-bytes (take k list)) (add-one i)
-    ∙ ap (union-of word-bytes) (take-suc list i 0 h)
-    ∙ union-append word-bytes (take i list) (getD list i 0 ∷ [])
-
-pub length-words : (list : List ℕ) (n : ℕ) → n ≤ length list → length (union-of word-bytes (take n list)) ≡ 4 * n
-length-words list n h = length-bytes (take n list) ∙ ap (λ k. 4 * k) (length-take-le n list h)
-
--- ---- the verdict's parts
-
-taken-at-most : (n : ℕ) (xs : List ℕ) → length (take n xs) ≤ n
-taken-at-most n xs = rw (length-take n xs) (min-le-left n (length xs))
-
-pub length-form : (q : Query) → Few q → length (form-bytes q) ≤ 322
-length-form q f =
-    let ln = taken-at-most (q .«node_count») (q .nodes) in let lk = taken-at-most (q .«constant_count») (q .constants) in
-    simp length-append (omega (arith, f .0, f .1, ln, lk, length-bytes (nodes-in q), length-bytes (pool q)))
+use Rattle.rules.specs.declared.Packing.{Packing}
+use Rattle.rules.specs.Reply.{PackReply}
+use Rattle.host.specs.Entry.{code, code-endless, answer-refusal, verdict-bytes, verdict-reply, verdict-entry, room-in, answer-reply, answer-entry, rule-refusal, rule-reply, RuleEntry}
+use Rattle.host.specs.Code.Entry.{Writable}
 
 -- ---- the verdict's reply, by its answer
 
@@ -162,3 +119,16 @@ answer-code bs out = code-read (byte-listing-of bs out .0 .answer) (listing-plac
 -- A number of rows is below 2^63, so it tells neither an endless answer nor a refusal: the rows fit into the output, whose length is a 64-bit number.
 pub rows-below-endless : (bs out : List ℕ) → length out < 2 ^ 64 → first-cause (list-checks bs (room-in (length out))) ≡ Done → (rows : List Row) → result-in bs ≡ listed rows → length rows < code-endless
 rows-below-endless bs out s done rows e = omega (arith, s, rows-fit bs (room-in (length out)) done rows e .2)
+
+-- ---- the rules
+
+-- What the rules' entry returns and leaves, by what packing answers.
+module _ (bs out place : List ℕ) (r : Packing) (e : PackReply bs r) where
+  as-packed : RuleEntry bs out place (rule-reply (r .answer) r out place)
+  as-packed P = ap (λ q. rule-reply (q .answer) q out place) (e P)
+
+  pub rule-refused : (n p : ℕ) → r .answer ≡ Refused n p → RuleEntry bs out place (rule-refusal n, (out, p ∷ []))
+  rule-refused n p a P = ap (λ b. rule-reply b r out place) (sym a) ∙ as-packed P
+
+  pub rule-packed : r .answer ≡ Done → RuleEntry bs out place (r .size, (r .bytes, place))
+  rule-packed a P = ap (λ b. rule-reply b r out place) (sym a) ∙ as-packed P

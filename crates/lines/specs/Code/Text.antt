@@ -2,7 +2,7 @@
 use Prim.Native.Nat.{ℕ, _+_}
 use mathlib.Core.List.{List}
 use lib.ListN.{length}
-use Rattle.answer.specs.Code.Listing.{overlay}
+use Rattle.query.specs.Code.Writing.{overlay}
 
 -- The place after a text that is written from a place on, and the list with it.
 abbrev pub wrote : ℕ → List ℕ → List ℕ → ℕ × List ℕ

@@ -12,7 +12,8 @@ use Rattle.calculus.specs.Reflects.{Reflects, holds, fails}
 use Rattle.calculus.specs.Reflects.Laws.{reflects-ltb}
 use Rattle.calculus.specs.Sets.{In}
 use Rattle.calculus.specs.Sets.Laws.{in-nil, in-one, in-append, in-cond}
-use Rattle.lines.specs.Text.{digits, decimal, reading-from}
+use Rattle.calculus.specs.Decimal.{digits}
+use Rattle.lines.specs.Text.{decimal, reading-from}
 
 -- One digit more.
 reading-snoc : (n : ℕ) (ds : List ℕ) (d : ℕ) → reading-from n (ds ++ (d ∷ [])) ≡ reading-from n ds * 10 + (d - 48)

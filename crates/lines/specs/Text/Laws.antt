@@ -9,10 +9,11 @@ use lib.ListN.{length, set, drop, length-append}
 use lib.Dec.{ltb}
 use Rattle.calculus.specs.Sets.{here, there, union-of}
 use Rattle.calculus.specs.Rows.{Row, Width}
+use Rattle.query.specs.Code.Writing.Laws.{length-overlay, overlay-append, overlay-front}
 use Rattle.answer.specs.Code.Listing.{cut}
-use Rattle.answer.specs.Code.Listing.Laws.{length-overlay, overlay-append, overlay-front}
 use Rattle.answer.specs.Code.Listing.Cut.{length-cut, cut-width}
-use Rattle.lines.specs.Text.{digits, decimal, spaced, line, word-safe, word-unsafe, word-columns, word-row, head-text, text-of, printed}
+use Rattle.calculus.specs.Decimal.{digits}
+use Rattle.lines.specs.Text.{decimal, spaced, line, word-safe, word-unsafe, word-columns, word-row, head-text, text-of, printed}
 use Rattle.lines.specs.Code.Text.{wrote}
 
 -- ---- texts one after the other

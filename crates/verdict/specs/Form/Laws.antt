@@ -28,7 +28,7 @@ use Rattle.query.specs.Decoding.Laws.{Kind, is-truth as truth-kind, is-record, 
 use Rattle.query.specs.Reading.{max-nodes, max-constants, read-of, pool, formula}
 use Rattle.query.specs.Packing.{term-code, words, pack, Fits, truth-fits, neg-fits, conj-fits, disj-fits, exists-fits, Packable}
 use Rattle.query.specs.Packing.Trees.{Tree, tree-decodes, tree-sound}
-use Rattle.query.specs.Packing.Laws.{size-positive, length-words, words-tree, root-words, read-pack}
+use Rattle.query.specs.Packing.Laws.{size-positive, length-words, fits-room, words-tree, root-words, read-pack}
 use Rattle.query.specs.Accepted.{Accepted}
 use Rattle.query.specs.Accepted.Laws.{pool-of, nodes-of-query, node-at, packed-accepted, formula-last, nodes-length-is}
 use Rattle.query.specs.Accepted.Order.{nonzero-false, record-again, equality-again, record-width}
@@ -112,8 +112,8 @@ module _ (ws : List ℕ) (k : ℕ) (fit : T (widths-fit ws)) (few : k ≤ max-co
     end-after : length (xs ++ words φ (length xs)) ≡ length xs + size φ
     end-after = length-append xs (words φ (length xs)) ∙ ap (λ n. length xs + n) (length-words φ (length xs))
 
-    tree-after : Fits ws k φ → length xs + size φ ≤ max-nodes → Tree ws k (xs ++ words φ (length xs)) (length xs) (length xs + size φ - 1) φ
-    tree-after f h = words-tree ws k fit few (xs ++ words φ (length xs)) φ (length xs) f h (λ i l. getD-append-add xs (words φ (length xs)) i 0)
+    tree-after : Fits ws k φ → length xs + size φ ≤ max-nodes → Tree k (xs ++ words φ (length xs)) (length xs) (length xs + size φ - 1) φ
+    tree-after f h = words-tree k few (xs ++ words φ (length xs)) φ (length xs) (fits-room ws k fit f) h (λ i l. getD-append-add xs (words φ (length xs)) i 0)
 
     pub root-after : Fits ws k φ → length xs + size φ ≤ max-nodes → root (xs ++ words φ (length xs)) ≡ φ
     root-after f h = ap (λ n. formula-at (xs ++ words φ (length xs)) (n - 1)) end-after ∙ tree-decodes (tree-after f h)
@@ -248,9 +248,9 @@ module _ (ws : List ℕ) (q : Query) (a : Accepted ws q) where
   pub form-root : formula-at (form-of q .nodes) (form-of q .«node_count» - 1) ≡ cp (formula q)
   form-root = sym (formula-last ws (form-of q) form-accepted) ∙ form-formula
 
-  form-tree : Tree ws (length (pool q)) (form-of q .nodes) 0 (0 + size (cp (formula q)) - 1) (cp (formula q))
+  form-tree : Tree (length (pool q)) (form-of q .nodes) 0 (0 + size (cp (formula q)) - 1) (cp (formula q))
   form-tree =
-      words-tree ws (length (pool q)) (a .widths-right) (a .packable .few-constants) (form-of q .nodes) (cp (formula q)) 0 (form-packable .fits)
+      words-tree (length (pool q)) (a .packable .few-constants) (form-of q .nodes) (cp (formula q)) 0 (fits-room ws (length (pool q)) (a .widths-right) (form-packable .fits))
       (omega (arith, form-packable .few-nodes))
       (λ i h. rw zero-add (node-at (pool q) (words (cp (formula q)) 0) i h))
 

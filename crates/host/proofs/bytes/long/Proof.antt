@@ -3,7 +3,7 @@ use Prim.Native.Nat.{_+_, _/_, _%_}
 use borrow.Author.Needs.{needs}
 use mathlib.Core.Path.{refl, _∙_}
 use Rattle.query.specs.Packing.{word-bytes}
-use Rattle.host.specs.Entry.Laws.{then-run}
+use Rattle.query.specs.Code.Writing.Laws.{then-run}
 use Rattle.host.proofs.bytes.long.Statement.{statement}
 use Rattle.host.proofs.bytes.long.Tie as tie
 

@@ -12,7 +12,7 @@ use lib.Dec.{ltb}
 use borrow.Fn.Kinds.{In}
 use borrow.Fn.PlainCycle.{Measures, is, falls, and}
 use Rattle.calculus.specs.Reflects.Laws.{reflects-ltb, reflects-true, reflects-false}
-use Rattle.lines.specs.Text.{digits}
+use Rattle.calculus.specs.Decimal.{digits}
 use Rattle.lines.specs.Code.Text.{wrote}
 use Rattle.lines.specs.Text.Laws.{wrote-none, wrote-byte, wrote-end, wrote-length, length-digits}
 use Rattle.lines.proofs.text.digits_of.Reads as digits-of

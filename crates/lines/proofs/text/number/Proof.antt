@@ -5,7 +5,8 @@ use borrow.Author.Needs.{needs}
 use mathlib.Core.Path.{_≡_, refl, _∙_}
 use mathlib.Core.List.{List, [], _∷_}
 use lib.ListN.{set, length-set}
-use Rattle.lines.specs.Text.{digits, decimal}
+use Rattle.calculus.specs.Decimal.{digits}
+use Rattle.lines.specs.Text.{decimal}
 use Rattle.lines.specs.Code.Text.{wrote}
 use Rattle.lines.specs.Text.Laws.{wrote-then, wrote-length}
 use Rattle.lines.proofs.text.number.Statement.{statement}

@@ -1,0 +1,4 @@
+pub mod Grammar
+pub mod Meaning
+pub mod Reply
+pub mod Code
