@@ -9,9 +9,9 @@ ghost use Prim.Native.Nat.{_+_, _*_, _≤_, _<_};
 ghost use lib.ListN.{length, take};
 ghost use Rattle.calculus.specs.Sets.{union-of};
 ghost use Rattle.query.specs.Reading.{max-nodes};
+ghost use Rattle.query.specs.Code.Writing.{wrote};
 ghost use Rattle.answer.specs.Code.Listing.{cut};
 ghost use Rattle.lines.specs.Text.{line, word-refused, word-row, word-rows, word-endless, head-text, printed};
-ghost use Rattle.lines.specs.Code.Text.{wrote};
 
 // The bytes of the longest output, and some more.
 pub const LINES: usize = 65536;

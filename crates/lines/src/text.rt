@@ -1,42 +1,13 @@
 // Bytes of text, written from a place of a list on. Each function hands back the place after what it wrote. For `print` alone (the module is not public): they
 // ask for places for all that they write, which `print` has, since its buffer is longer than the longest output.
+use query::write;
 ghost use mathlib.Core.Path.{_≡_};
 ghost use mathlib.Core.List.{_∷_, []};
 ghost use mathlib.Core.Bool.{cond};
 ghost use Prim.Native.Nat.{_+_, _*_, _≤_, _<_};
 ghost use lib.ListN.{length, take, drop};
-ghost use Rattle.calculus.specs.Decimal.{digits};
+ghost use Rattle.query.specs.Code.Writing.{wrote};
 ghost use Rattle.lines.specs.Text.{decimal, spaced, line as line-text, word-safe, word-unsafe};
-ghost use Rattle.lines.specs.Code.Text.{wrote};
-
-// A word.
-fn word(text: &[u8], out: &mut [u8], at: usize) -> usize
-    requires { ⌜ (length (now text) ≤ 16) × (at + length (now text) ≤ length (now out)) × (at < 1000000) ⌝ }
-    ensures { λ r. ⌜ (r, now (out .exit)) ≡ wrote at (now (text .entry)) (now (out .entry)) ⌝ }
-{
-    let mut i = 0;
-    while i < text.len() {
-        out[at + i] = text[i];
-        i += 1;
-    }
-    at + i
-}
-
-// The digits of a number, of k digits at most: those in front first.
-fn digits_of(n: u32, k: usize, out: &mut [u8], at: usize) -> usize
-    requires { ⌜ (k ≤ 10) × (at + k ≤ length (now out)) × (at ≤ 1000000) ⌝ }
-    ensures { λ r. ⌜ (r, now (out .exit)) ≡ wrote at (digits k n) (now (out .entry)) ⌝ }
-{
-    if k == 0 {
-        return at;
-    }
-    let mut end = at;
-    if 10 <= n {
-        end = digits_of(n / 10, k - 1, out, at);
-    }
-    out[end] = 48 + (n % 10) as u8;
-    end + 1
-}
 
 // A space and a number.
 fn number(n: u32, out: &mut [u8], at: usize) -> usize
@@ -44,7 +15,7 @@ fn number(n: u32, out: &mut [u8], at: usize) -> usize
     ensures { λ r. ⌜ (r, now (out .exit)) ≡ wrote at (32 ∷ decimal n) (now (out .entry)) ⌝ }
 {
     out[at] = b' ';
-    digits_of(n, 10, out, at + 1)
+    write::digits(n as u64, 10, out, at + 1)
 }
 
 // Numbers, k of a list from a place on, a space before each.
@@ -66,7 +37,7 @@ pub fn line(text: &[u8], list: &[u32], from: usize, k: usize, out: &mut [u8], at
     requires { ⌜ (length (now text) ≤ 16) × (from + k ≤ length (now list)) × (k ≤ 4096) × (at + length (now text) + 11 * k + 1 ≤ length (now out)) × (at < 200000) ⌝ }
     ensures { λ r. ⌜ (r, now (out .exit)) ≡ wrote at (line-text (now (text .entry)) (take k (drop from (now (list .entry))))) (now (out .entry)) ⌝ }
 {
-    let middle = word(text, out, at);
+    let middle = write::bytes(text, out, at);
     let end = numbers(list, from, k, out, middle);
     out[end] = b'\n';
     end + 1

@@ -1,4 +1,5 @@
 pub mod Grammar
 pub mod Meaning
 pub mod Reply
+pub mod Output
 pub mod Code

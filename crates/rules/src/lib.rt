@@ -2,14 +2,16 @@
 // with and, under an exists for each of their variables that the head doesn't have.
 //
 // The text is read byte by byte by an automaton (`mode`, `scan`), which keeps the head and the goals as constants and nodes (`draft`). At the full stop the
-// quantifiers are added and the query is packed (`finish`). Text may be of any length and any bytes.
+// quantifiers are added and the query is packed (`finish`). Text may be of any length and any bytes. What the program `rule` prints is written by `output`.
 mod draft;
 mod finish;
 mod mode;
+mod output;
 mod scan;
 
 use causes::Answer;
 use causes::RELATIONS;
+pub use output::print;
 use query::CONSTANTS;
 use query::NODES;
 use query::Query;
@@ -33,22 +35,34 @@ pub fn pack(text: &[u8]) -> Packing
 {
     let mut constants = [0u32; CONSTANTS];
     let mut nodes = [0u32; NODES];
-    let mut d = scan::start();
+    let mut here = scan::start();
+    let mut head = scan::no_head();
+    let mut body = scan::no_goals();
     let mut i = 0;
     while i < text.len() {
-        d = scan::step(d, text[i], &mut constants, &mut nodes);
-        let here = d.mode;
-        if mode::stage(here) == mode::OUT {
+        let b = text[i];
+        let number = here.number;
+        let mode = here.mode;
+        let effect = scan::effect(mode, b);
+        here = scan::step(here, b);
+        let reached = here.mode;
+        if mode::stage(reached) == mode::OUT {
             return finish::refused(i as u64);
         }
         i += 1;
+        if effect == mode::NOTHING {
+            continue;
+        }
+        if effect == mode::COLUMN {
+            head = draft::column(head, number);
+            continue;
+        }
+        body = scan::goals(effect, body, number, &mut constants, &mut nodes);
     }
-    let end = d.mode;
+    let end = here.mode;
     if mode::stage(end) != mode::DONE {
         return finish::refused(i as u64);
     }
-    let head = d.head;
-    let body = d.body;
     finish::finish(head, body, constants, nodes, i as u64)
 }
 

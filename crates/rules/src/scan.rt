@@ -9,57 +9,23 @@ use query::NODES;
 ghost use mathlib.Core.Path.{_≡_};
 ghost use Prim.Native.Nat.{_≤_};
 ghost use Rattle.rules.specs.Code.Draft.{Small};
-ghost use Rattle.rules.specs.Code.Scan.{start-draft, digit-mode, digit-step, moved-to, body-step, turn-step, draft-step};
+ghost use Rattle.rules.specs.Code.Scan.{empty-head, empty-body, start-place, digit-mode, digit-place, turn-mode, turn-place, place-step, effect-at, body-step};
 
-// What has been read: where the reader stands, the number being read, or 0, and whether a digit of it has been read, the head and the goals.
-pub struct Draft {
+// Where the reader stands: its mode, the number being read, or 0, and whether a digit of it has been read.
+pub struct Place {
     pub mode: Mode,
     pub number: u64,
     pub started: bool,
-    pub head: Head,
-    pub body: Body,
 }
 
 // Nothing has been read.
-pub fn start() -> Draft
-    ensures { λ r. ⌜ r ≡ start-draft ⌝ }
+pub fn start() -> Place
+    ensures { λ r. ⌜ r ≡ start-place ⌝ }
 {
-    let head = Head {
-        variables: [0u8; 4],
-        count: 0,
-        least: 0,
-        over: false,
-    };
-    let body = Body {
-        denied: false,
-        named: false,
-        subject: 0,
-        terms: [0u32; 4],
-        count: 0,
-        seen: [false; 16],
-        constants: 0,
-        nodes: 0,
-        over: false,
-    };
-    Draft {
+    Place {
         mode: Mode::Start,
         number: 0,
         started: false,
-        head,
-        body,
-    }
-}
-
-// A mode is reached, and no number is being read.
-fn moved(mode: Mode, head: Head, body: Body) -> Draft
-    ensures { λ r. ⌜ r ≡ moved-to mode head body ⌝ }
-{
-    Draft {
-        mode,
-        number: 0,
-        started: false,
-        head,
-        body,
     }
 }
 
@@ -77,26 +43,99 @@ fn digit_mode(mode: Mode, number: u64, started: bool) -> Mode
 }
 
 // A digit.
-fn digit(d: Draft, b: u8) -> Draft
+fn digit(p: Place, b: u8) -> Place
     requires { ⌜ (48 ≤ b) × (b ≤ 57) ⌝ }
-    ensures { λ r. ⌜ r ≡ digit-step d b ⌝ }
+    ensures { λ r. ⌜ r ≡ digit-place p b ⌝ }
 {
-    let mode = d.mode;
-    let number = d.number;
-    let started = d.started;
-    let head = d.head;
-    let body = d.body;
-    Draft {
-        mode: digit_mode(mode, number, started),
+    let mode = p.mode;
+    let number = p.number;
+    Place {
+        mode: digit_mode(mode, number, p.started),
         number: draft::more(number, (b - 48) as u64),
         started: true,
-        head,
-        body,
+    }
+}
+
+// The mode after a byte that is no digit. One that follows a number needs a digit before it.
+fn turn_mode(mode: Mode, started: bool, b: u8) -> Mode
+    ensures { λ r. ⌜ r ≡ turn-mode mode started b ⌝ }
+{
+    let effect = mode::effect(mode, b);
+    if !mode::suits(effect, started) {
+        return Mode::Out;
+    }
+    mode::next(mode, b)
+}
+
+// A byte that is no digit.
+fn turn(p: Place, b: u8) -> Place
+    ensures { λ r. ⌜ r ≡ turn-place p b ⌝ }
+{
+    let mode = p.mode;
+    Place {
+        mode: turn_mode(mode, p.started, b),
+        number: 0,
+        started: false,
+    }
+}
+
+// One byte more.
+pub fn step(p: Place, b: u8) -> Place
+    ensures { λ r. ⌜ r ≡ place-step p b ⌝ }
+{
+    if b < 48 {
+        return turn(p, b);
+    }
+    if 57 < b {
+        return turn(p, b);
+    }
+    digit(p, b)
+}
+
+// What a byte does to the head or the goals. A digit does nothing.
+pub fn effect(mode: Mode, b: u8) -> u32
+    ensures { λ r. ⌜ r ≡ effect-at mode b ⌝ }
+{
+    if b < 48 {
+        return mode::effect(mode, b);
+    }
+    if 57 < b {
+        return mode::effect(mode, b);
+    }
+    mode::NOTHING
+}
+
+// No variable of the head has been read.
+pub fn no_head() -> Head
+    ensures { λ r. ⌜ r ≡ empty-head ⌝ }
+{
+    Head {
+        variables: [0u8; 4],
+        count: 0,
+        least: 0,
+        over: false,
+    }
+}
+
+// No goal has been read.
+pub fn no_goals() -> Body
+    ensures { λ r. ⌜ r ≡ empty-body ⌝ }
+{
+    Body {
+        denied: false,
+        named: false,
+        subject: 0,
+        terms: [0u32; 4],
+        count: 0,
+        seen: [false; 16],
+        constants: 0,
+        nodes: 0,
+        over: false,
     }
 }
 
 // What a byte does to the goals. Nothing more is kept of a rule past a limit.
-fn goals(
+pub fn goals(
     effect: u32,
     body: Body,
     number: u64,
@@ -134,39 +173,4 @@ fn goals(
         }
         _ => e,
     }
-}
-
-// A byte that is no digit. One that follows a number needs a digit before it.
-fn turn(d: Draft, b: u8, constants: &mut [u32; CONSTANTS], nodes: &mut [u32; NODES]) -> Draft
-    requires { ⌜ Small (d .body) ⌝ }
-    ensures { λ r. ⌜ (r, (now (constants .exit), now (nodes .exit))) ≡ turn-step d b (now (constants .entry)) (now (nodes .entry)) ⌝ }
-{
-    let mode = d.mode;
-    let number = d.number;
-    let started = d.started;
-    let head = d.head;
-    let body = d.body;
-    let to = mode::next(mode, b);
-    let effect = mode::effect(mode, b);
-    if !mode::suits(effect, started) {
-        return moved(Mode::Out, head, body);
-    }
-    if effect == mode::COLUMN {
-        return moved(to, draft::column(head, number), body);
-    }
-    moved(to, head, goals(effect, body, number, constants, nodes))
-}
-
-// One byte more.
-pub fn step(d: Draft, b: u8, constants: &mut [u32; CONSTANTS], nodes: &mut [u32; NODES]) -> Draft
-    requires { ⌜ Small (d .body) ⌝ }
-    ensures { λ r. ⌜ (r, (now (constants .exit), now (nodes .exit))) ≡ draft-step d b (now (constants .entry)) (now (nodes .entry)) ⌝ }
-{
-    if b < 48 {
-        return turn(d, b, constants, nodes);
-    }
-    if 57 < b {
-        return turn(d, b, constants, nodes);
-    }
-    digit(d, b)
 }

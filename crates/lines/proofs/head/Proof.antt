@@ -8,8 +8,9 @@ use mathlib.Core.List.{List, []}
 use lib.ListN.{length, take}
 use Rattle.calculus.specs.Lists.Laws.{four-of}
 use Rattle.lines.specs.Text.{line, word-safe, word-unsafe, word-columns}
-use Rattle.lines.specs.Code.Text.{wrote}
-use Rattle.lines.specs.Text.Laws.{wrote-then, wrote-end, wrote-length, length-verdict}
+use Rattle.query.specs.Code.Writing.{wrote}
+use Rattle.query.specs.Code.Writing.Laws.{wrote-then, wrote-end, wrote-length}
+use Rattle.lines.specs.Text.Laws.{length-verdict}
 use Rattle.lines.proofs.head.Statement.{statement}
 use Rattle.lines.proofs.head.Tie as tie
 

@@ -16,8 +16,9 @@ use Rattle.packed.specs.declared.Listing.{Listing}
 use Rattle.packed.specs.Packed.{listing-of}
 use Rattle.packed.specs.Packed.Places.{listing-refused}
 use Rattle.lines.specs.Text.{line, word-refused, word-row, word-rows, word-endless, head-text, text-of, printed}
-use Rattle.lines.specs.Code.Text.{wrote}
-use Rattle.lines.specs.Text.Laws.{wrote-then, wrote-end, wrote-length, wrote-printed, length-head, length-line, length-cut-rows}
+use Rattle.query.specs.Code.Writing.{wrote}
+use Rattle.query.specs.Code.Writing.Laws.{wrote-then, wrote-end, wrote-length}
+use Rattle.lines.specs.Text.Laws.{wrote-printed, length-head, length-line, length-cut-rows}
 use Rattle.lines.specs.Text.Output.{text-refused, text-endless, text-rows, few-columns, rows-fit}
 use Rattle.lines.proofs.print.Statement.{statement}
 use Rattle.lines.proofs.print.Tie as tie

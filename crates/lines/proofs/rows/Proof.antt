@@ -12,8 +12,9 @@ use Rattle.calculus.specs.Sets.Laws.{union-append}
 use Rattle.answer.specs.Code.Listing.{cut}
 use Rattle.answer.specs.Code.Listing.Cut.{row-end, cut-next, position-next}
 use Rattle.lines.specs.Text.{line, word-row}
-use Rattle.lines.specs.Code.Text.{wrote}
-use Rattle.lines.specs.Text.Laws.{wrote-none, wrote-then, wrote-end, wrote-length, length-cut-rows}
+use Rattle.query.specs.Code.Writing.{wrote}
+use Rattle.query.specs.Code.Writing.Laws.{wrote-none, wrote-then, wrote-end, wrote-length}
+use Rattle.lines.specs.Text.Laws.{length-cut-rows}
 use Rattle.lines.proofs.rows.Statement.{statement}
 use Rattle.lines.proofs.rows.Tie as tie
 

@@ -5,7 +5,6 @@ use mathlib.Core.Logic.{⊎-elim}
 use mathlib.Core.Bool.{Bool, cond}
 use mathlib.Core.List.{List, [], _∷_, _++_}
 use native.Mathlib.Omega.{arith}
-use native.Mathlib.Nat.{pow-suc}
 use lib.ListN.{length, getD, length-append, List·getD-append}
 use lib.Dec.{ltb}
 use Rattle.calculus.specs.Reflects.{Reflects, holds, fails}
@@ -13,16 +12,13 @@ use Rattle.calculus.specs.Reflects.Laws.{reflects-ltb}
 use Rattle.calculus.specs.Sets.{In}
 use Rattle.calculus.specs.Sets.Laws.{in-nil, in-one, in-append, in-cond}
 use Rattle.calculus.specs.Decimal.{digits}
+use Rattle.calculus.specs.Decimal.Laws.{without-last}
 use Rattle.lines.specs.Text.{decimal, reading-from}
 
 -- One digit more.
 reading-snoc : (n : ℕ) (ds : List ℕ) (d : ℕ) → reading-from n (ds ++ (d ∷ [])) ≡ reading-from n ds * 10 + (d - 48)
 reading-snoc n [] d = refl
 reading-snoc n (c ∷ ds) d = reading-snoc (n * 10 + (c - 48)) ds d
-
--- Without its last digit, a number has one digit less.
-without-last : (k n : ℕ) → n < 10 ^ suc k → n / 10 < 10 ^ k
-without-last k n h = omega (arith, pow-suc 10 k)
 
 digits-read : (k n : ℕ) → n < 10 ^ k → reading-from 0 (digits k n) ≡ n
 digits-read zero n h = omega arith

@@ -1,54 +1,21 @@
--- Laws of the output: texts written one after the other, and how long they are.
-use Prim.Native.Nat.{ℕ, zero, suc, _+_, _*_, _/_, _%_, _≤_}
+-- Laws of the output: how long its texts are, and the whole of it as written.
+use Prim.Native.Nat.{ℕ, _+_, _*_, _≤_}
 use native.Mathlib.Omega.{arith}
-use native.Mathlib.Nat.{zero-add, suc-mul}
+use native.Mathlib.Nat.{suc-mul}
 use mathlib.Core.Path.{_≡_, refl, sym, ap, subst, _∙_}
 use mathlib.Core.Bool.{Bool, true, false, cond}
 use mathlib.Core.List.{List, [], _∷_, _++_, append-assoc}
-use lib.ListN.{length, set, drop, length-append}
-use lib.Dec.{ltb}
+use lib.ListN.{length, drop, length-append}
 use Rattle.calculus.specs.Sets.{here, there, union-of}
 use Rattle.calculus.specs.Rows.{Row, Width}
-use Rattle.query.specs.Code.Writing.Laws.{length-overlay, overlay-append, overlay-front}
+use Rattle.calculus.specs.Decimal.Laws.{length-digits}
+use Rattle.query.specs.Code.Writing.{wrote}
+use Rattle.query.specs.Code.Writing.Laws.{wrote-end, wrote-front}
 use Rattle.answer.specs.Code.Listing.{cut}
 use Rattle.answer.specs.Code.Listing.Cut.{length-cut, cut-width}
-use Rattle.calculus.specs.Decimal.{digits}
 use Rattle.lines.specs.Text.{decimal, spaced, line, word-safe, word-unsafe, word-columns, word-row, head-text, text-of, printed}
-use Rattle.lines.specs.Code.Text.{wrote}
-
--- ---- texts one after the other
-
-pub wrote-none : (at : ℕ) (out : List ℕ) → (at, out) ≡ wrote at [] out
-wrote-none at out = let e : at ≡ at + 0 = omega arith in ap (λ m. (m, out)) e
-
-pub wrote-then : (at m r : ℕ) (t u out o after : List ℕ) → (m, o) ≡ wrote at t out → (r, after) ≡ wrote m u o → (r, after) ≡ wrote at (t ++ u) out
-wrote-then at m r t u out o after e f =
-    let l : at + length (t ++ u) ≡ at + length t + length u = omega (arith, length-append t u) in
-    f ∙ ap (λ p. wrote (p .0) u (p .1)) e ∙ sym (λ i. (l i, overlay-append at t u out i))
-
--- One byte more.
-pub wrote-byte : (at m : ℕ) (t out o : List ℕ) (b : ℕ) → (m, o) ≡ wrote at t out → (m + 1, set o m b) ≡ wrote at (t ++ (b ∷ [])) out
-wrote-byte at m t out o b e = wrote-then at m (m + 1) t (b ∷ []) out o (set o m b) e refl
-
--- Where it ends. The list keeps its length; and from its front on, the text stands before the rest of it.
-pub wrote-end : (at r : ℕ) (t out after : List ℕ) → (r, after) ≡ wrote at t out → r ≡ at + length t
-wrote-end at r t out after e = ap (λ p. p .0) e
-
-pub wrote-length : (at r : ℕ) (t out after : List ℕ) → (r, after) ≡ wrote at t out → length after ≡ length out
-wrote-length at r t out after e = ap (λ p. length (p .1)) e ∙ length-overlay at t out
-
-pub wrote-front : (t out : List ℕ) → length t ≤ length out → wrote 0 t out ≡ (length t, t ++ drop (length t) out)
-wrote-front t out h = λ i. (zero-add (length t) i, overlay-front t out h i)
 
 -- ---- how long texts are
-
-pub length-digits : (k n : ℕ) → length (digits k n) ≤ k
-length-digits zero n = omega arith
-length-digits (suc k) n = go (ltb n 10) (length-digits k (n / 10))
-  where
-    go : (b : Bool) → length (digits k (n / 10)) ≤ k → length (cond b [] (digits k (n / 10)) ++ ((48 + n % 10) ∷ [])) ≤ suc k
-    go true l = omega arith
-    go false l = omega (arith, l, length-append (digits k (n / 10)) ((48 + n % 10) ∷ []))
 
 pub length-decimal : (n : ℕ) → length (decimal n) ≤ 10
 unfolding decimal

@@ -17,12 +17,11 @@ use Rattle.rules.specs.declared.mode.Mode.{Mode}
 use Rattle.rules.specs.declared.mode.Mode.the-variants.{Out, Start, Named, ColumnDue, Column, Closed, Colon, GoalDue, DenialN, DenialNo, DenialNot, Denial, Relation, TermDue, Ended, Subject, Spaced, Equals, OtherDue, Other, Done, Term as TermMode}
 use Rattle.rules.specs.declared.draft.Head.{Head}
 use Rattle.rules.specs.declared.draft.Body.{Body}
-use Rattle.rules.specs.declared.scan.Draft.{Draft}
 use Rattle.rules.specs.Grammar.{several, Term, Goal, rule, all}
 use Rattle.rules.specs.Meaning.{term-variables, term-values, relations-in, variables-in, values-in, pooled, term-in, matrix, max-terms, max-number, max-value, crowded}
 use Rattle.rules.specs.Code.Automaton.{State, start, named, column-due, column, closed, colon, goal-due, denial-n, denial-no, denial-not, denial, relation, term-due, term, ended, subject, spaced, equals, other-due, other, done}
 use Rattle.rules.specs.Code.Draft.{capped, Small}
-use Rattle.rules.specs.Code.Scan.{Goals}
+use Rattle.rules.specs.Code.Scan.{Draft, Goals}
 pub mod Laws
 pub mod Columns
 pub mod Terms

@@ -10,7 +10,9 @@ use mathlib.Core.Option.{Option, none, some}
 use lib.ListN.{length, getD, take, replicate}
 use lib.Seq.{take-suc, take-all}
 use Rattle.rules.specs.declared.Packing.{Packing}
-use Rattle.rules.specs.declared.scan.Draft.{Draft}
+use Rattle.rules.specs.declared.draft.Head.{Head}
+use Rattle.rules.specs.declared.draft.Body.{Body}
+use Rattle.rules.specs.declared.scan.Place.{Place}
 use Rattle.rules.specs.Grammar.{Rule}
 use Rattle.rules.specs.Meaning.{overstepped}
 use Rattle.rules.specs.Reply.{refused, packed, PackReply}
@@ -18,8 +20,9 @@ use Rattle.rules.specs.Reply.Laws.{stopped-reply, early-reply, rule-repl
 use Rattle.rules.specs.Code.Automaton.{State, start, named, column-due, column, closed, colon, goal-due, denial-n, denial-no, denial-not, denial, relation, term-due, term, ended, subject, spaced, equals, other-due, other, done, step, stepped, run}
 use Rattle.rules.specs.Code.Automaton.Laws.{run-append}
 use Rattle.rules.specs.Code.Modes.{stage-of}
-use Rattle.rules.specs.Code.Draft.{Small}
-use Rattle.rules.specs.Code.Scan.{start-draft, draft-step}
+use Rattle.rules.specs.Code.Draft.{Small, put-column}
+use Rattle.rules.specs.Code.Scan.{Draft, Goals, empty-head, empty-body, start-place, place-step, effect-at, draft-at, body-step, draft-step}
+use Rattle.rules.specs.Code.Scan.Laws.{mode-stepped, stepped-nothing, stepped-column, stepped-goals}
 use Rattle.rules.specs.Code.Keeping.{mode-of, Kept, KeptAfter}
 use Rattle.rules.specs.Code.Keeping.Steps.{kept-start, kept-step}
 use Rattle.rules.specs.Code.Finish.{Variables, finished}
@@ -80,8 +83,8 @@ over-at (done R) e = (R, refl)
 abbrev pub Reached : List ℕ → ℕ → Draft → List ℕ → List ℕ → Type 0
 Reached bs i d cs ns = (s : State) × (run (some start) (take i bs) ≡ some s) × Kept s d cs ns
 
-pub reached-start : (bs : List ℕ) (d : Draft) → d ≡ start-draft → Reached bs 0 d (replicate 16 0) (replicate 64 0)
-reached-start bs d e = (start, refl, subst (λ c. Kept start c (replicate 16 0) (replicate 64 0)) (sym e) kept-start)
+pub reached-start : (bs : List ℕ) (p : Place) (h : Head) (b : Body) → p ≡ start-place → h ≡ empty-head → b ≡ empty-body → Reached bs 0 (draft-at p h b) (replicate 16 0) (replicate 64 0)
+reached-start bs p h b e f g = (start, refl, subst (λ c. Kept start c (replicate 16 0) (replicate 64 0)) (λ i. draft-at (sym e i) (sym f i) (sym g i)) kept-start)
 
 module _ (bs : List ℕ) (i : ℕ) (d : Draft) (cs ns : List ℕ) (r : Reached bs i d cs ns) where
   pub reached-small : Small (d .body)
@@ -97,42 +100,67 @@ module _ (bs : List ℕ) (i : ℕ) (d : Draft) (cs ns : List ℕ) (r : Reached b
         ap (λ k. run (some start) (take k bs)) (add-one i) ∙ ap (run (some start)) (take-suc bs i 0 l)
         ∙ run-append (some start) (take i bs) (getD bs i 0 ∷ []) ∙ ap (λ o. stepped o (getD bs i 0)) (r .1)
 
-    pub reached-stop : stage-of (e .mode) ≡ 0 → (p : Packing) → p ≡ refused i → PackReply bs p
+    reached-stop : stage-of (e .mode) ≡ 0 → (p : Packing) → p ≡ refused i → PackReply bs p
     reached-stop t p g P = g ∙ sym (stopped-reply bs i (r .0) (r .1) l (go (step (r .0) (getD bs i 0)) kept-after) P)
       where
         go : (o : Option State) → KeptAfter o e ds ms → o ≡ none
         go none k = refl
         go (some s) k = let z : stage-of (e .mode) ≡ stage-of (mode-of s) = ap stage-of (k .mode-is) in absurd (omega (arith, live s))
 
-    pub reached-next : stage-of (e .mode) ≢ 0 → Reached bs (i + 1) e ds ms
+    reached-next : stage-of (e .mode) ≢ 0 → Reached bs (i + 1) e ds ms
     reached-next t = go (step (r .0) (getD bs i 0)) run-next kept-after
       where
         go : (o : Option State) → run (some start) (take (i + 1) bs) ≡ o → KeptAfter o e ds ms → Reached bs (i + 1) e ds ms
         go none g k = absurd (t (ap stage-of k))
         go (some s) g k = (s, g, k)
 
-  -- The end of the text.
-  module _ (l : i ≡ length bs) where
-    run-all : run (some start) bs ≡ some (r .0)
-    run-all = ap (run (some start)) (sym (take-all i bs (omega arith))) ∙ r .1
+-- The same in two parts, as the code goes: w is the place after the byte, e its effect, g the stage of w.
+module _ (bs : List ℕ) (i : ℕ) (p : Place) (h : Head) (b : Body) (cs ns : List ℕ) (r : Reached bs i (draft-at p h b) cs ns) (l : i < length bs)
+    (w : Place) (f : w ≡ place-step p (getD bs i 0)) (e : ℕ) (k : e ≡ effect-at (p .mode) (getD bs i 0)) (g : ℕ) (z : g ≡ stage-of (w .mode)) where
+  alive : g ≢ 0 → stage-of (place-step p (getD bs i 0) .mode) ≢ 0
+  alive n o = n (z ∙ ap (λ v. stage-of (v .mode)) f ∙ o)
 
-    pub reached-early : stage-of (d .mode) ≢ 2 → (p : Packing) → p ≡ refused i → PackReply bs p
-    reached-early t p g P =
-        g ∙ ap refused l
-        ∙ sym (early-reply bs (r .0) run-all (λ R f. t (ap stage-of (r .2 .mode-is ∙ ap mode-of f))) P)
+  on : g ≢ 0 → (c : Head) (a : Body) (ds ms : List ℕ) → _≡_ {A = Draft × (List ℕ × List ℕ)} (draft-at (place-step p (getD bs i 0)) c a, (ds, ms)) (draft-step (draft-at p h b) (getD bs i 0) cs ns)
+      → Reached bs (i + 1) (draft-at w c a) ds ms
+  on n c a ds ms o = reached-next bs i (draft-at p h b) cs ns r l (draft-at w c a) ds ms (ap (λ v. (draft-at v c a, (ds, ms))) f ∙ o) (λ q. n (z ∙ q))
 
-    module _ (t : stage-of (d .mode) ≡ 2) where
-      whole : (R : Rule) × (r .0 ≡ done R)
-      whole = over-at (r .0) (sym (ap stage-of (r .2 .mode-is)) ∙ t)
+  pub stops : g ≡ 0 → (q : Packing) → q ≡ refused i → PackReply bs q
+  stops n q o =
+      let d = draft-step (draft-at p h b) (getD bs i 0) cs ns in
+      reached-stop bs i (draft-at p h b) cs ns r l (d .0) (d .1 .0) (d .1 .1) refl
+      (ap stage-of (mode-stepped p h b (getD bs i 0) cs ns) ∙ ap (λ v. stage-of (v .mode)) (sym f) ∙ sym z ∙ n) q o
 
-      kept-whole : Kept (done (whole .0)) d cs ns
-      kept-whole = subst (λ s. Kept s d cs ns) (whole .1) (r .2)
+  pub goes-on : g ≢ 0 → e ≡ 0 → Reached bs (i + 1) (draft-at w h b) cs ns
+  goes-on n o = on n h b cs ns (stepped-nothing p h b (getD bs i 0) cs ns (sym k ∙ o))
 
-      pub reached-ready : (d .head .over ≡ false → Variables (d .head)) × Small (d .body) × (d .body .over ≡ false → 1 ≤ d .body .nodes)
-      reached-ready = kept-ready (whole .0) d cs ns kept-whole
+  pub takes-column : g ≢ 0 → e ≡ 1 → (c : Head) → c ≡ put-column h (p .number) → Reached bs (i + 1) (draft-at w c b) cs ns
+  takes-column n o c q = on n c b cs ns (stepped-column p h b (getD bs i 0) cs ns (sym k ∙ o) (alive n) c q)
 
-      pub reached-done : (p : Packing) → p ≡ finished (d .head) (d .body) cs ns i → PackReply bs p
-      reached-done p g P =
-          g ∙ finish-kept (whole .0) d cs ns i kept-whole
-          ∙ ap (λ n. cond (overstepped (whole .0)) (refused n) (packed (whole .0))) l
-          ∙ sym (rule-reply bs (whole .0) (run-all ∙ ap some (whole .1)) P)
+  pub takes-goals : g ≢ 0 → e ≢ 0 → e ≢ 1 → (a : Body) (ds ms : List ℕ) → _≡_ {A = Goals} (a, (ds, ms)) (body-step e b (p .number) cs ns) → Reached bs (i + 1) (draft-at w h a) ds ms
+  takes-goals n o one a ds ms q = on n h a ds ms (stepped-goals p h b (getD bs i 0) cs ns e (sym k) one o (alive n) a ds ms q)
+
+-- The end of the text.
+module _ (bs : List ℕ) (i : ℕ) (d : Draft) (cs ns : List ℕ) (r : Reached bs i d cs ns) (l : i ≡ length bs) where
+  run-all : run (some start) bs ≡ some (r .0)
+  run-all = ap (run (some start)) (sym (take-all i bs (omega arith))) ∙ r .1
+
+  pub reached-early : stage-of (d .mode) ≢ 2 → (p : Packing) → p ≡ refused i → PackReply bs p
+  reached-early t p g P =
+      g ∙ ap refused l
+      ∙ sym (early-reply bs (r .0) run-all (λ R f. t (ap stage-of (r .2 .mode-is ∙ ap mode-of f))) P)
+
+  module _ (t : stage-of (d .mode) ≡ 2) where
+    whole : (R : Rule) × (r .0 ≡ done R)
+    whole = over-at (r .0) (sym (ap stage-of (r .2 .mode-is)) ∙ t)
+
+    kept-whole : Kept (done (whole .0)) d cs ns
+    kept-whole = subst (λ s. Kept s d cs ns) (whole .1) (r .2)
+
+    pub reached-ready : (d .head .over ≡ false → Variables (d .head)) × Small (d .body) × (d .body .over ≡ false → 1 ≤ d .body .nodes)
+    reached-ready = kept-ready (whole .0) d cs ns kept-whole
+
+    pub reached-done : (p : Packing) → p ≡ finished (d .head) (d .body) cs ns i → PackReply bs p
+    reached-done p g P =
+        g ∙ finish-kept (whole .0) d cs ns i kept-whole
+        ∙ ap (λ n. cond (overstepped (whole .0)) (refused n) (packed (whole .0))) l
+        ∙ sym (rule-reply bs (whole .0) (run-all ∙ ap some (whole .1)) P)

@@ -7,8 +7,9 @@ use mathlib.Core.List.{List, [], _∷_, _++_, append-assoc}
 use lib.ListN.{length, take, drop, set, length-append, length-drop, length-set}
 use lib.Seq.{length-take-le}
 use Rattle.lines.specs.Text.{spaced, line}
-use Rattle.lines.specs.Code.Text.{wrote}
-use Rattle.lines.specs.Text.Laws.{wrote-then, wrote-byte, wrote-end, wrote-length, length-spaced}
+use Rattle.query.specs.Code.Writing.{wrote}
+use Rattle.query.specs.Code.Writing.Laws.{wrote-then, wrote-byte, wrote-end, wrote-length}
+use Rattle.lines.specs.Text.Laws.{length-spaced}
 use Rattle.lines.proofs.text.line.Statement.{statement}
 use Rattle.lines.proofs.text.line.Tie as tie
 
@@ -29,7 +30,7 @@ module _ (at middle end : ℕ) (text ns out mid now : List ℕ) (w : (middle, mi
 
 -- The word and the numbers are written.
 module _ (c : tie.After-numbers) where
-  abbrev worded : tie.After-word
+  abbrev worded : tie.After-bytes
   worded = c .before .before .before .before
 
   abbrev start : tie.Start
@@ -43,17 +44,17 @@ module _ (c : tie.After-numbers) where
 
   room : (c .numbers .result + 1 ≤ length (c .numbers .last .1 .1 .1 .0)) × (c .numbers .result ≤ 300000)
   room =
-      let a = start .args in let w = worded .word in let n = c .numbers in
+      let a = start .args in let w = worded .bytes in let n = c .numbers in
       let e = ends (a .at) (w .result) (n .result) (a .text .now) listed (a .out .now) (w .last .1 .0) (n .last .1 .1 .1 .0) (w .ensures) (n .ensures) in
       let k = kept (a .at) (w .result) (n .result) (a .text .now) listed (a .out .now) (w .last .1 .0) (n .last .1 .1 .1 .0) (w .ensures) (n .ensures) in
       (omega (arith, e, k, count), omega (arith, e, count))
 
-word-requires : tie.Need-word-requires
-word-requires c κs = search needs
+bytes-requires : tie.Need-bytes-requires
+bytes-requires c κs = search needs
 
 numbers-requires : tie.Need-numbers-requires
 numbers-requires c κs =
-    let d = c .before .before .before in let w = d .word in let a = d .before .before .before .before .before .args in
+    let d = c .before .before .before in let w = d .bytes in let a = d .before .before .before .before .before .args in
     let e = wrote-end (a .at) (w .result) (a .text .now) (a .out .now) (w .last .1 .0) (w .ensures) in
     let k = wrote-length (a .at) (w .result) (a .text .now) (a .out .now) (w .last .1 .0) (w .ensures) in
     (omega arith, omega arith, omega (arith, e, k), omega (arith, e))
@@ -66,15 +67,15 @@ add-result c = record { fits = omega (arith, room (c .before .before) .1) }
 
 same-length : tie.Need-same-length
 same-length c =
-    let d = c .before .before in let a = start d .args in let w = worded d .word in let n = d .numbers in
+    let d = c .before .before in let a = start d .args in let w = worded d .bytes in let n = d .numbers in
     simp length-set (kept (a .at) (w .result) (n .result) (a .text .now) (listed d) (a .out .now) (w .last .1 .0) (n .last .1 .1 .1 .0) (w .ensures) (n .ensures))
 
 returns : tie.Need-returns
 returns c =
-    let d = c .before .before in let a = start d .args in let w = worded d .word in let n = d .numbers in
+    let d = c .before .before in let a = start d .args in let w = worded d .bytes in let n = d .numbers in
     fed (a .at) (w .result) (n .result) (a .text .now) (listed d) (a .out .now) (w .last .1 .0) (n .last .1 .1 .1 .0) (w .ensures) (n .ensures)
 
 pub line-spec : {M : Type 1} → statement M
 line-spec =
     tie.close
-    (tie.spec word-requires numbers-requires slice-write-out add-result same-length returns)
+    (tie.spec bytes-requires numbers-requires slice-write-out add-result same-length returns)

@@ -7,8 +7,8 @@ use mathlib.Core.List.{List, [], _∷_}
 use lib.ListN.{set, length-set}
 use Rattle.calculus.specs.Decimal.{digits}
 use Rattle.lines.specs.Text.{decimal}
-use Rattle.lines.specs.Code.Text.{wrote}
-use Rattle.lines.specs.Text.Laws.{wrote-then, wrote-length}
+use Rattle.query.specs.Code.Writing.{wrote}
+use Rattle.query.specs.Code.Writing.Laws.{wrote-then, wrote-length}
 use Rattle.lines.proofs.text.number.Statement.{statement}
 use Rattle.lines.proofs.text.number.Tie as tie
 
@@ -19,22 +19,22 @@ after-space at r n out after e = wrote-then at (at + 1) r (32 ∷ []) (digits 10
 slice-write-out : tie.Need-slice-write-out
 slice-write-out c = search needs
 
-add-digits-of : tie.Need-add-digits-of
-add-digits-of c = search needs
+add-digits : tie.Need-add-digits
+add-digits c = search needs
 
-digits-of-requires : tie.Need-digits-of-requires
-digits-of-requires c κs = let a = c .before .before .args in (omega arith, omega (arith, length-set (a .out .now) (a .at) 32), omega arith)
+digits-requires : tie.Need-digits-requires
+digits-requires c κs = let a = c .before .before .args in (omega arith, omega (arith, length-set (a .out .now) (a .at) 32), omega arith)
 
 same-length : tie.Need-same-length
 same-length c =
-    let d = c .before .before .digits-of in let a = c .before .before .before .before .before .args in
+    let d = c .before .before .digits in let a = c .before .before .before .before .before .args in
     wrote-length (a .at + 1) (d .result) (digits 10 (a .n)) (set (a .out .now) (a .at) 32) (d .last .1 .1 .0) (d .ensures) ∙ length-set (a .out .now) (a .at) 32
 
 returns : tie.Need-returns
 returns c =
-    let d = c .before .before .digits-of in let a = c .before .before .before .before .before .args in
+    let d = c .before .before .digits in let a = c .before .before .before .before .before .args in
     after-space (a .at) (d .result) (a .n) (a .out .now) (d .last .1 .1 .0) (d .ensures)
 
 pub number-spec : {M : Type 1} → statement M
 number-spec =
-    tie.close (tie.spec slice-write-out add-digits-of digits-of-requires same-length returns)
+    tie.close (tie.spec slice-write-out add-digits digits-requires same-length returns)

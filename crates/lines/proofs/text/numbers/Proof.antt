@@ -8,8 +8,9 @@ use mathlib.Core.List.{List, [], _∷_, _++_, append-nil}
 use lib.ListN.{length, getD, take, drop, length-drop}
 use lib.Seq.{take-suc, getD-drop, length-take-le}
 use Rattle.lines.specs.Text.{decimal, spaced}
-use Rattle.lines.specs.Code.Text.{wrote}
-use Rattle.lines.specs.Text.Laws.{wrote-none, wrote-then, wrote-end, wrote-length, length-spaced, spaced-append}
+use Rattle.query.specs.Code.Writing.{wrote}
+use Rattle.query.specs.Code.Writing.Laws.{wrote-none, wrote-then, wrote-end, wrote-length}
+use Rattle.lines.specs.Text.Laws.{length-spaced, spaced-append}
 use Rattle.lines.proofs.text.numbers.Statement.{statement}
 use Rattle.lines.proofs.text.numbers.Tie as tie
 

@@ -4,7 +4,7 @@ use mathlib.Core.Path.{sym, ap, _∙_}
 use mathlib.Core.Bool.{cond}
 use mathlib.Core.List.{[]}
 use Rattle.lines.specs.Text.{line, word-safe, word-unsafe}
-use Rattle.lines.specs.Code.Text.{wrote}
+use Rattle.query.specs.Code.Writing.{wrote}
 use Rattle.lines.proofs.text.verdict.Statement.{statement}
 use Rattle.lines.proofs.text.verdict.Tie as tie
 

@@ -23,12 +23,12 @@ use Rattle.query.specs.Code.Writing.Laws.{front-padded}
 use Rattle.rules.specs.declared.Packing.{Packing}
 use Rattle.rules.specs.declared.draft.Head.{Head}
 use Rattle.rules.specs.declared.draft.Body.{Body}
-use Rattle.rules.specs.declared.scan.Draft.{Draft}
 use Rattle.rules.specs.Grammar.{Several, several, all, Goal, holds, fails, equal, Rule, rule}
 use Rattle.rules.specs.Meaning.{goals, goal-terms, variables-in, values-in, pooled, pool-of, matrix, bound, formula-of, max-terms, crowded, overstepped}
 use Rattle.rules.specs.Meaning.Limits.{Within, within, not-overstepped}
 use Rattle.rules.specs.Meaning.Packing.{length-bytes-of, bytes-short}
 use Rattle.rules.specs.Reply.{max-bytes, bytes-of, refused, packed}
+use Rattle.rules.specs.Code.Scan.{Draft}
 use Rattle.rules.specs.Code.Automaton.{done}
 use Rattle.rules.specs.Code.Draft.{Nodes, Small}
 use Rattle.rules.specs.Code.Keeping.{HeadFine, HeadStored, idle, pool, goal-nodes, Fine, Stored, Kept}

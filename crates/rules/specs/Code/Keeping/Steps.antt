@@ -16,11 +16,10 @@ use Rattle.rules.specs.declared.mode.Mode.{Mode}
 use Rattle.rules.specs.declared.mode.Mode.the-variants.{Out, Start, Named, ColumnDue, Column, Closed, Colon, GoalDue, DenialN, DenialNo, DenialNot, Denial, Relation, TermDue, Ended, Subject, Spaced, Equals, OtherDue, Other, Done, Term as TermMode}
 use Rattle.rules.specs.declared.draft.Head.{Head}
 use Rattle.rules.specs.declared.draft.Body.{Body}
-use Rattle.rules.specs.declared.scan.Draft.{Draft}
 use Rattle.rules.specs.Grammar.{Term, Goal, equal}
 use Rattle.rules.specs.Code.Modes.{picked, next-mode, suits}
 use Rattle.rules.specs.Code.Draft.{capped, capped-more, put-column}
-use Rattle.rules.specs.Code.Scan.{draft-of, start-draft, moved-to, digit-step, Goals, body-step, turned, turn-step, draft-step}
+use Rattle.rules.specs.Code.Scan.{Draft, draft-of, start-draft, moved-to, digit-step, Goals, body-step, turned, turn-step, draft-step}
 use Rattle.rules.specs.Code.Automaton.{State, start, named, column-due, column, closed, colon, goal-due, denial-n, denial-no, denial-not, denial, relation, term-due, term, ended, subject, spaced, equals, other-due, other, done, Move, _to_, digit-moves, after, term-of, moves, chosen, step}
 use Rattle.rules.specs.Code.Automaton.Laws.{NoDigit, chosen-passed, chosen-first, chosen-more, after-column, after-term, after-goal}
 use Rattle.rules.specs.Code.Keeping.{HeadKeeps, Account, account-of, idle, Keeps, KeepsAll, mode-of, numeral-of, columns-of, account, Counts, not-begun, counts, Kept, KeptAfter}

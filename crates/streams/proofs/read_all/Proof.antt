@@ -1,16 +1,16 @@
--- `list::read_all` is safe and ends: a read leaves no more bytes than the space has, whose length stays, and a turn uses up one of the reads.
+-- `streams::read_all` is safe and ends: a read leaves no more bytes than the space has, whose length stays, and a turn uses up one of the reads.
 use Prim.Native.Nat.{_-_, _≤_}
 use mathlib.Core.Path.{_≡_}
 use lib.ListN.{length}
 use borrow.Author.Needs.{needs}
-use Rattle.list.proofs.read_all.Statement.{statement}
-use Rattle.list.proofs.read_all.Tie as tie
+use Rattle.streams.proofs.read_all.Statement.{statement}
+use Rattle.streams.proofs.read_all.Tie as tie
 
 abbrev Inv-loop : tie.InvT-loop
 Inv-loop space₀ p₀ reads₀ space p reads = (p .bytes ≤ length space) × (length space ≡ length space₀)
 
 abbrev μ-loop : tie.MeasureT-loop
-μ-loop space₀ p₀ reads₀ space p reads = 1000000 - reads
+μ-loop space₀ p₀ reads₀ space p reads = 10000000 - reads
 
 loop-holds : tie.Need-loop-holds Inv-loop μ-loop
 loop-holds c = search needs

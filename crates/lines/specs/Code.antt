@@ -1,2 +1,0 @@
--- What only the proofs of the code need: nobody has to believe it.
-pub mod Text
