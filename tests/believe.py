@@ -112,6 +112,8 @@ def check_calls(problems, promises):
     for name in names:
         crate, *middle, function = name.split("::")
         path = CRATES / crate / "src" / f"{middle[0] if middle else 'lib'}.rt"
+        shown = re.search(rf"^pub use (\w+)::{function};", path.read_text(), re.M)  # a call that another module has
+        path = path.with_name(f"{shown[1]}.rt") if shown else path
         contract = functions(path).get(function)
         if contract is None:
             problems.append(f"docs/PROMISES.md names the call {name}, which isn't there")

@@ -493,7 +493,7 @@ def check_rows(engine, answers, number, seed):
 
 # ---- the program
 
-LONGEST_READ = SPACE  # bytes of a text that the program reads whole
+LONGEST_READ = 1048576  # bytes of a text that the program reads whole
 
 
 def check_program(program, found):
@@ -510,11 +510,13 @@ def check_program(program, found):
 
 
 def check_streams(program):
-    """A text in parts or between interrupted reads is read as any other; where a read or the writing fails, nothing is printed but a line on standard error.
+    """A text in parts or between interrupted reads is read as any other; where a read or the writing fails, or the text is too
+    long, nothing is printed but a line on standard error.
     How many ways were tried."""
     text = b"q(X0,X2):-r3(X0,17),not r1(X2)."
     query, refusal = rule_reader.read_rule(text)[0], b"refused 20 30\n"
     single = lambda data: [bytes([b]) for b in data]
+    longest = b"q:-r0(" + b"1" * (LONGEST_READ - 8) + b")."  # a value of a million digits
     streams.failing_reads()
     with open("/dev/full", "wb") as full:
         tried = [
@@ -527,6 +529,9 @@ def check_streams(program):
             ("a later read that fails", streams.run(program, [text], env=streams.with_reads(READS="rre")), "standard input"),
             ("no standard input", streams.run(program, closed=0), "standard input"),
             ("no standard output", streams.run(program, [text], closed=1), "standard output"),
+            ("the longest text", streams.run(program, [longest]), b"refused 20 %d\n" % len(longest)),
+            ("a byte more", streams.run(program, [longest + b"."]), "standard input"),
+            ("the longest text outside the grammar", streams.run(program, [longest[:-1] + b"1"]), b"refused 20 %d\n" % (len(longest) - 1)),
             ("a full device", streams.run(program, [text], stdout=full), "standard output"),
         ]
     for name, (status, out, err), wanted in tried:

@@ -1,5 +1,5 @@
-// The host's entries: the verdict and the answers over a packed input, and the query of a rule's text, with numbers and byte runs only. include/palmrummy.h is their C side: the layout of
-// every byte written, and the meaning of every number returned.
+// The host's entries: the verdict and the answers over a packed input, and the query of a rule's text, with numbers and byte runs only. include/palmrummy.h is
+// their C side: the layout of every byte written, and the meaning of every number returned.
 mod bytes;
 
 use causes::Answer;
@@ -16,7 +16,7 @@ ghost use Rattle.host.specs.Code.Entry.{Writable};
 // The bytes of a verdict.
 pub const VERDICT: usize = 370;
 
-// Where the refusals of a verdict start.
+// Where the refusals of a verdict and of a rule's text start.
 const REFUSED: u32 = 2147483648;
 
 // What an endless answer returns, and where the refusals of an answer start.

@@ -80,7 +80,7 @@ abbrev pub NoRule : List ℕ → Type 0
 NoRule bs = (R : Rule) → ¬ (written R ≡ bs)
 
 -- Document 02's place in text outside the grammar: "the first byte offset at which no rule can continue, or the text's length if it ends early". A rule
--- can go on up to the place, and no longer with the byte there.
+-- can go on up to the place, and no longer with the byte there. The whole text of a rule meets this at its length, so `outside` says that it is no rule's.
 pub record Leaves (bs : List ℕ) (place : ℕ) : Type 0 where
   pub within : place ≤ length bs
   pub goes-on : Begins (take place bs)

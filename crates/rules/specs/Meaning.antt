@@ -17,6 +17,7 @@ pub mod Limits
 pub mod Variables
 pub mod Rows
 pub mod Packing
+pub mod Widths
 pub mod Laws
 
 -- ---- the parts of a rule
@@ -111,12 +112,12 @@ goal-formula pool (fails r ts) = neg (rel r (map (term-in pool) (all ts)))
 goal-formula pool (equal x t) = eq x (term-in pool t)
 
 -- "joins goals with and from the left": φ and the first goal, that and the second ..
-abbrev pub joined : Pool → Fmla → List Goal → Fmla
-joined pool φ [] = φ
-joined pool φ (g ∷ gs) = joined pool (conj φ (goal-formula pool g)) gs
+abbrev pub conjoined : Pool → Fmla → List Goal → Fmla
+conjoined pool φ [] = φ
+conjoined pool φ (g ∷ gs) = conjoined pool (conj φ (goal-formula pool g)) gs
 
 abbrev pub matrix : Pool → Several Goal → Fmla
-matrix pool (several g gs) = joined pool (goal-formula pool g) gs
+matrix pool (several g gs) = conjoined pool (goal-formula pool g) gs
 
 -- "the goals' variables absent from the head", ascending.
 abbrev pub bound : Rule → List ℕ
@@ -131,7 +132,7 @@ quantified (x ∷ xs) φ = exists x (quantified xs φ)
 abbrev pub formula-of : Rule → Fmla
 formula-of (rule xs gs) = quantified (bound (rule xs gs)) (matrix (pool-of (all gs)) gs)
 
--- ---- the limits
+-- ---- the limits: terms of a head or a relation, numbers of a relation or variable, values
 
 abbrev pub max-terms : ℕ
 max-terms = 4

@@ -1,5 +1,5 @@
 // What has been read of a rule, beside its constants and nodes, which stand in two lent arrays. A number may have any number of digits, and a rule any number
-// of terms and goals: a number stops at the first one past all limits, and once a limit is passed (`over`) nothing more is kept.
+// of terms and goals: a number stops at the first one past all limits, and once a limit is passed (`over`) it no longer matters what is kept.
 use query::CONSTANTS;
 use query::NODES;
 use query::node;
@@ -7,7 +7,7 @@ ghost use mathlib.Core.Path.{_≡_};
 ghost use Prim.Native.Nat.{_≤_, _<_};
 ghost use lib.ListN.{take};
 ghost use Rattle.rules.specs.Meaning.{place-in};
-ghost use Rattle.rules.specs.Code.Draft.{Small, capped-more, put-column, put-variable, put-constant, put-term, put-relation, put-equality, settled, add-word, deny-goal, join-goal, append-goal};
+ghost use Rattle.rules.specs.Code.Draft.{Small, empty-head, empty-body, capped-more, put-column, put-variable, put-constant, put-term, put-relation, put-equality, settled, add-word, deny-goal, join-goal, append-goal};
 
 // The first number that is past all limits.
 const PAST: u64 = 4294967296;
@@ -40,6 +40,35 @@ pub struct Body {
     pub over: bool,
 }
 
+// No variable of the head has been read.
+pub fn no_head() -> Head
+    ensures { λ r. ⌜ r ≡ empty-head ⌝ }
+{
+    Head {
+        variables: [0u8; TERMS],
+        count: 0,
+        least: 0,
+        over: false,
+    }
+}
+
+// No goal has been read.
+pub fn no_goals() -> Body
+    ensures { λ r. ⌜ r ≡ empty-body ⌝ }
+{
+    Body {
+        denied: false,
+        named: false,
+        subject: 0,
+        terms: [0u32; TERMS],
+        count: 0,
+        seen: [false; 16],
+        constants: 0,
+        nodes: 0,
+        over: false,
+    }
+}
+
 // A number with one digit more, or the first one past all limits.
 pub fn more(number: u64, digit: u64) -> u64
     requires { ⌜ digit ≤ 9 ⌝ }
@@ -62,6 +91,7 @@ pub fn column(h: Head, x: u64) -> Head
     let mut e = h;
     let n = e.count;
     let least = e.least;
+    // Unless all three tests are passed.
     e.over = true;
     if x < least {
         return e;

@@ -8,6 +8,7 @@ use causes::Answer;
 use query::CONSTANTS;
 use query::NODES;
 use query::Query;
+use query::VARIABLES;
 use query::node;
 use query::write;
 ghost use mathlib.Core.Path.{_≡_};
@@ -72,14 +73,14 @@ fn needs_exists(h: Head, seen: &[bool; 16], x: u8) -> bool
     !is_column(h, x)
 }
 
-// An exists over the last of n nodes for each such variable, the highest first, so innermost. How many nodes there are then; one more than there is room for where
+// An exists over the last of n nodes for each variable that the goals have and the head lacks, the highest first, so innermost. How many nodes there are then; one more than there is room for where
 // one had no room.
 fn quantify(h: Head, seen: &[bool; 16], n: usize, nodes: &mut [u32; NODES]) -> usize
     requires { ⌜ Variables h × (1 ≤ n) × (n ≤ 64) ⌝ }
     ensures { λ r. ⌜ (r, now (nodes .exit)) ≡ bind-all (bound-down (is-bound h (now (seen .entry))) 16) n (now (nodes .entry)) ⌝ }
 {
     let mut end = n;
-    let mut x: u8 = 16;
+    let mut x = VARIABLES;
     while 0 < x {
         x -= 1;
         if needs_exists(h, seen, x) {

@@ -36,8 +36,8 @@ pub fn pack(text: &[u8]) -> Packing
     let mut constants = [0u32; CONSTANTS];
     let mut nodes = [0u32; NODES];
     let mut here = scan::start();
-    let mut head = scan::no_head();
-    let mut body = scan::no_goals();
+    let mut head = draft::no_head();
+    let mut body = draft::no_goals();
     let mut i = 0;
     while i < text.len() {
         let b = text[i];
@@ -66,7 +66,7 @@ pub fn pack(text: &[u8]) -> Packing
     finish::finish(head, body, constants, nodes, i as u64)
 }
 
-// The same, read for relations of these widths: cause 20, then 1, then 9.
+// A rule's text read as `query::read` reads its packed query, for relations of these widths: cause 20, then 1, then 9.
 pub fn read(text: &[u8], widths: [u8; RELATIONS]) -> Reading
     ensures { λ r. ⌜ ReadReply widths (now (text .entry)) r ⌝ }
 {

@@ -6,23 +6,29 @@ ghost use mathlib.Core.List.{[], _∷_};
 ghost use lib.Dec.{eqb};
 ghost use Rattle.rules.specs.Code.Modes.{picked, next-mode, effect-of, suits, stage-of};
 
-// What a byte that is no digit does, beside the step to the next mode: nothing; the number before it is a variable of the head; a not stands before the goal;
-// the number is the goal's relation, or the variable before its =; an X stands before the number that follows; the number is a term; it is the last term of a
-// relation; it is the term of an equality.
+// What a byte that is no digit does, beside the step to the next mode.
+// Nothing.
 pub const NOTHING: u32 = 0;
 
+// The number before it is a variable of the head.
 pub const COLUMN: u32 = 1;
 
+// A not stands before the goal.
 pub const DENIED: u32 = 2;
 
+// The number before it is the goal's relation, or the variable before its =.
 pub const SUBJECT: u32 = 3;
 
+// An X stands before the number that follows.
 pub const NAMED: u32 = 4;
 
+// The number before it is a term of a relation,
 pub const TERM: u32 = 5;
 
+// .. its last term,
 pub const RELATION: u32 = 6;
 
+// .. or the term of an equality.
 pub const EQUALITY: u32 = 7;
 
 // Whether a rule can go on, and whether it has ended.
@@ -38,7 +44,7 @@ pub enum Mode {
     // Before the q.
     Start,
     // q
-    Named,
+    Letter,
     // q( or a comma in the head: an X is due.
     ColumnDue,
     // The number of a variable of the head.
@@ -110,8 +116,8 @@ pub fn next(mode: Mode, b: u8) -> Mode
 {
     match mode {
         Mode::Out => Mode::Out,
-        Mode::Start => one(b, b'q', Mode::Named),
-        Mode::Named => two(b, b'(', Mode::ColumnDue, b':', Mode::Colon),
+        Mode::Start => one(b, b'q', Mode::Letter),
+        Mode::Letter => two(b, b'(', Mode::ColumnDue, b':', Mode::Colon),
         Mode::ColumnDue => one(b, b'X', Mode::Column),
         Mode::Column => three(
             b,
@@ -167,7 +173,7 @@ pub fn effect(mode: Mode, b: u8) -> u32
     match mode {
         Mode::Out => NOTHING,
         Mode::Start => NOTHING,
-        Mode::Named => NOTHING,
+        Mode::Letter => NOTHING,
         Mode::ColumnDue => NOTHING,
         Mode::Column => COLUMN,
         Mode::Closed => NOTHING,
@@ -190,7 +196,7 @@ pub fn effect(mode: Mode, b: u8) -> u32
     }
 }
 
-// Whether a byte can do so: all but three effects are of a number, so a digit of it must have been read.
+// Whether an effect can take place: all but NOTHING, DENIED and NAMED use the number before the byte, so a digit of it must have been read.
 pub fn suits(effect: u32, started: bool) -> bool
     ensures { λ r. ⌜ r ≡ suits effect started ⌝ }
 {
@@ -209,7 +215,7 @@ pub fn stage(mode: Mode) -> u32
     match mode {
         Mode::Out => OUT,
         Mode::Start => WITHIN,
-        Mode::Named => WITHIN,
+        Mode::Letter => WITHIN,
         Mode::ColumnDue => WITHIN,
         Mode::Column => WITHIN,
         Mode::Closed => WITHIN,

@@ -1,7 +1,6 @@
 // The reader of a rule, byte by byte. It goes on for text of any length: what is kept is of fixed size.
 use crate::draft;
 use crate::draft::Body;
-use crate::draft::Head;
 use crate::mode;
 use crate::mode::Mode;
 use query::CONSTANTS;
@@ -9,20 +8,20 @@ use query::NODES;
 ghost use mathlib.Core.Path.{_≡_};
 ghost use Prim.Native.Nat.{_≤_};
 ghost use Rattle.rules.specs.Code.Draft.{Small};
-ghost use Rattle.rules.specs.Code.Scan.{empty-head, empty-body, start-place, digit-mode, digit-place, turn-mode, turn-place, place-step, effect-at, body-step};
+ghost use Rattle.rules.specs.Code.Scan.{start-reader, digit-mode, digit-reader, turn-mode, turn-reader, reader-step, effect-at, body-step};
 
 // Where the reader stands: its mode, the number being read, or 0, and whether a digit of it has been read.
-pub struct Place {
+pub struct Reader {
     pub mode: Mode,
     pub number: u64,
     pub started: bool,
 }
 
 // Nothing has been read.
-pub fn start() -> Place
-    ensures { λ r. ⌜ r ≡ start-place ⌝ }
+pub fn start() -> Reader
+    ensures { λ r. ⌜ r ≡ start-reader ⌝ }
 {
-    Place {
+    Reader {
         mode: Mode::Start,
         number: 0,
         started: false,
@@ -43,13 +42,13 @@ fn digit_mode(mode: Mode, number: u64, started: bool) -> Mode
 }
 
 // A digit.
-fn digit(p: Place, b: u8) -> Place
+fn digit(p: Reader, b: u8) -> Reader
     requires { ⌜ (48 ≤ b) × (b ≤ 57) ⌝ }
-    ensures { λ r. ⌜ r ≡ digit-place p b ⌝ }
+    ensures { λ r. ⌜ r ≡ digit-reader p b ⌝ }
 {
     let mode = p.mode;
     let number = p.number;
-    Place {
+    Reader {
         mode: digit_mode(mode, number, p.started),
         number: draft::more(number, (b - 48) as u64),
         started: true,
@@ -68,11 +67,11 @@ fn turn_mode(mode: Mode, started: bool, b: u8) -> Mode
 }
 
 // A byte that is no digit.
-fn turn(p: Place, b: u8) -> Place
-    ensures { λ r. ⌜ r ≡ turn-place p b ⌝ }
+fn turn(p: Reader, b: u8) -> Reader
+    ensures { λ r. ⌜ r ≡ turn-reader p b ⌝ }
 {
     let mode = p.mode;
-    Place {
+    Reader {
         mode: turn_mode(mode, p.started, b),
         number: 0,
         started: false,
@@ -80,8 +79,8 @@ fn turn(p: Place, b: u8) -> Place
 }
 
 // One byte more.
-pub fn step(p: Place, b: u8) -> Place
-    ensures { λ r. ⌜ r ≡ place-step p b ⌝ }
+pub fn step(p: Reader, b: u8) -> Reader
+    ensures { λ r. ⌜ r ≡ reader-step p b ⌝ }
 {
     if b < 48 {
         return turn(p, b);
@@ -103,35 +102,6 @@ pub fn effect(mode: Mode, b: u8) -> u32
         return mode::effect(mode, b);
     }
     mode::NOTHING
-}
-
-// No variable of the head has been read.
-pub fn no_head() -> Head
-    ensures { λ r. ⌜ r ≡ empty-head ⌝ }
-{
-    Head {
-        variables: [0u8; 4],
-        count: 0,
-        least: 0,
-        over: false,
-    }
-}
-
-// No goal has been read.
-pub fn no_goals() -> Body
-    ensures { λ r. ⌜ r ≡ empty-body ⌝ }
-{
-    Body {
-        denied: false,
-        named: false,
-        subject: 0,
-        terms: [0u32; 4],
-        count: 0,
-        seen: [false; 16],
-        constants: 0,
-        nodes: 0,
-        over: false,
-    }
 }
 
 // What a byte does to the goals. Nothing more is kept of a rule past a limit.

@@ -5,7 +5,7 @@ ghost use lib.ListN.{length};
 // The most reads that are made: far more than there are bytes in the space of any program, also where signals interrupt some.
 const READS: usize = 10000000;
 
-// The bytes that were read, and whether the input ended there or the space is full; no more is to come in either case.
+// The bytes that were read; whether the input ended there or the space is full, so that no more is to come; and whether a read failed.
 pub struct Progress {
     pub bytes: usize,
     pub ended: bool,

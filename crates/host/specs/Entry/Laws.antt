@@ -1,8 +1,9 @@
 -- Laws of the entries: the replies by what was found.
-use Prim.Native.Nat.{ℕ, _+_, _/_, _%_, _<_, _^_}
+use Prim.Native.Nat.{ℕ, _+_, _/_, _%_, _<_, _^_, _≤_}
 use native.Mathlib.Omega.{arith}
 use mathlib.Core.Path.{_≡_, refl, sym, ap, subst, subst⁻¹, _∙_}
 use mathlib.Core.Bool.{Bool, true, false}
+use mathlib.Core.Logic.{_⊎_, inl, inr}
 use mathlib.Core.List.{List, [], _∷_}
 use lib.ListN.{length, getD}
 use Rattle.calculus.specs.Lists.{padded}
@@ -24,7 +25,9 @@ use Rattle.packed.specs.Packed.Laws.{query-accepted, input-few}
 use Rattle.packed.specs.Packed.Places.{judged-place, listing-place, listing-refused}
 use Rattle.packed.specs.Packed.Told.{rows-fit}
 use Rattle.rules.specs.declared.Packing.{Packing}
-use Rattle.rules.specs.Reply.{PackReply}
+use Rattle.rules.specs.Grammar.Laws.{parse}
+use Rattle.rules.specs.Reply.{packing, PackReply}
+use Rattle.rules.specs.Reply.Laws.{Answered, packs, refuses, packing-answered}
 use Rattle.host.specs.Entry.{code, code-endless, answer-refusal, verdict-bytes, verdict-reply, verdict-entry, room-in, answer-reply, answer-entry, rule-refusal, rule-reply, RuleEntry}
 use Rattle.host.specs.Code.Entry.{Writable}
 
@@ -132,3 +135,13 @@ module _ (bs out place : List ℕ) (r : Packing) (e : PackReply bs r) where
 
   pub rule-packed : r .answer ≡ Done → RuleEntry bs out place (r .size, (r .bytes, place))
   rule-packed a P = ap (λ b. rule-reply b r out place) (sym a) ∙ as-packed P
+
+-- The number that the rules' entry returns is that of a packed query's bytes, or of a refusal with 20, and tells which.
+pub rule-code : (bs out place : List ℕ) (r : ℕ × (List ℕ × List ℕ)) → RuleEntry bs out place r → ((6 ≤ r .0) × (r .0 ≤ 322)) ⊎ (r .0 ≡ rule-refusal 20)
+rule-code bs out place r f = go (packing (parse bs)) (f (parse bs)) (packing-answered bs (parse bs))
+  where
+    go : (p : Packing) → r ≡ rule-reply (p .answer) p out place → Answered p → ((6 ≤ r .0) × (r .0 ≤ 322)) ⊎ (r .0 ≡ rule-refusal 20)
+    go p g (packs d l h) =
+        let z : r .0 ≡ p .size = ap (λ q. q .0) (g ∙ ap (λ a. rule-reply a p out place) d) in
+        inl (omega arith, omega arith)
+    go p g (refuses n d z) = inr (ap (λ q. q .0) (g ∙ ap (λ a. rule-reply a p out place) d))

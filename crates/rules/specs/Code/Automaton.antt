@@ -19,7 +19,7 @@ pub data State : Type 0 where
   -- before the q
   start : State
   -- q
-  named : State
+  letter : State
   -- q( or q(X0, : an X is due
   column-due : List ℕ → State
   column : List ℕ → Option ℕ → State
@@ -81,8 +81,8 @@ abbrev pub relation-goal : Bool → ℕ → Several Term → Goal
 relation-goal denied r ts = cond denied (fails r ts) (holds r ts)
 
 abbrev pub moves : State → List Move
-moves start = (113 to named) ∷ []
-moves named = (40 to column-due []) ∷ (58 to colon []) ∷ []
+moves start = (113 to letter) ∷ []
+moves letter = (40 to column-due []) ∷ (58 to colon []) ∷ []
 moves (column-due xs) = (88 to column xs none) ∷ []
 moves (column xs n) = digit-moves (column xs) n ++ after n (λ x. (44 to column-due (xs ++ (x ∷ []))) ∷ (41 to closed (xs ++ (x ∷ []))) ∷ [])
 moves (closed xs) = (58 to colon xs) ∷ []
@@ -155,7 +155,7 @@ to-term xs gs d r ts = to-relation xs gs d ++ (numeral r ++ (40 ∷ due term-tex
 
 abbrev pub spelled : State → List ℕ
 spelled start = []
-spelled named = 113 ∷ []
+spelled letter = 113 ∷ []
 spelled (column-due xs) = 113 ∷ 40 ∷ due variable-text xs
 spelled (column xs n) = (113 ∷ 40 ∷ due variable-text xs) ++ (88 ∷ begun n)
 spelled (closed xs) = head-text xs

@@ -30,6 +30,10 @@ capped-more n d = capped (n * 10 + d)
 abbrev pub head-of : List ℕ → ℕ → ℕ → Bool → Head
 head-of xs n least o = record { variables = xs; count = n; least = least; over = o }
 
+-- No variable has been read.
+abbrev pub empty-head : Head
+empty-head = head-of (replicate max-terms 0) 0 0 false
+
 abbrev pub put-column : Head → ℕ → Head
 put-column h x =
     cond
@@ -43,7 +47,11 @@ abbrev pub body-of : Bool → Bool → ℕ → List ℕ → ℕ → List Bool �
 body-of d v s ts n seen cs ns o =
     record { denied = d; named = v; subject = s; terms = ts; count = n; seen = seen; constants = cs; nodes = ns; over = o }
 
--- The same, past a limit.
+-- No goal has been read.
+abbrev pub empty-body : Body
+empty-body = body-of false false 0 (replicate max-terms 0) 0 (replicate 16 false) 0 0 false
+
+-- Goals past a limit.
 abbrev pub overrun : Body → Body
 overrun b = body-of (b .denied) (b .named) (b .subject) (b .terms) (b .count) (b .seen) (b .constants) (b .nodes) true
 
@@ -54,7 +62,7 @@ pub record Small (b : Body) : Type 0 where
   pub constants-small : b .constants ≤ max-constants
   pub nodes-small : b .nodes ≤ max-nodes
 
--- The same with one term more, which these 5 bits stand for.
+-- Goals with one term more, which these 5 bits stand for.
 abbrev pub with-term : Body → ℕ → List Bool → ℕ → Body
 with-term b code seen cs =
     body-of (b .denied) (b .named) (b .subject) (set (b .terms) (b .count) code) (b .count + 1) seen cs (b .nodes) (b .over)
@@ -73,7 +81,7 @@ put-place b x p cs =
 abbrev pub put-constant : Body → ℕ → List ℕ → Body × List ℕ
 put-constant b x cs = cond (leb past x) (overrun b, cs) (put-place b x (place-in (take (b .constants) cs) x) cs)
 
--- The same without an X before the number.
+-- Goals without an X before the number.
 abbrev pub unnamed : Body → Body
 unnamed b = body-of (b .denied) false (b .subject) (b .terms) (b .count) (b .seen) (b .constants) (b .nodes) (b .over)
 

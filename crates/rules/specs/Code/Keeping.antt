@@ -14,12 +14,12 @@ use Rattle.calculus.specs.Satisfaction.{Pool}
 use Rattle.query.specs.Reading.{max-nodes, max-constants}
 use Rattle.query.specs.Packing.{term-code, words}
 use Rattle.rules.specs.declared.mode.Mode.{Mode}
-use Rattle.rules.specs.declared.mode.Mode.the-variants.{Out, Start, Named, ColumnDue, Column, Closed, Colon, GoalDue, DenialN, DenialNo, DenialNot, Denial, Relation, TermDue, Ended, Subject, Spaced, Equals, OtherDue, Other, Done, Term as TermMode}
+use Rattle.rules.specs.declared.mode.Mode.the-variants.{Out, Start, Letter, ColumnDue, Column, Closed, Colon, GoalDue, DenialN, DenialNo, DenialNot, Denial, Relation, TermDue, Ended, Subject, Spaced, Equals, OtherDue, Other, Done, Term as TermMode}
 use Rattle.rules.specs.declared.draft.Head.{Head}
 use Rattle.rules.specs.declared.draft.Body.{Body}
 use Rattle.rules.specs.Grammar.{several, Term, Goal, rule, all}
 use Rattle.rules.specs.Meaning.{term-variables, term-values, relations-in, variables-in, values-in, pooled, term-in, matrix, max-terms, max-number, max-value, crowded}
-use Rattle.rules.specs.Code.Automaton.{State, start, named, column-due, column, closed, colon, goal-due, denial-n, denial-no, denial-not, denial, relation, term-due, term, ended, subject, spaced, equals, other-due, other, done}
+use Rattle.rules.specs.Code.Automaton.{State, start, letter, column-due, column, closed, colon, goal-due, denial-n, denial-no, denial-not, denial, relation, term-due, term, ended, subject, spaced, equals, other-due, other, done}
 use Rattle.rules.specs.Code.Draft.{capped, Small}
 use Rattle.rules.specs.Code.Scan.{Draft, Goals}
 pub mod Laws
@@ -116,15 +116,11 @@ pub record Keeps (a : Account) (b : Body) (cs ns : List ℕ) : Type 0 where
 abbrev pub KeepsAll : Account → Goals → Type 0
 KeepsAll a g = Keeps a (g .0) (g .1 .0) (g .1 .1)
 
--- The accounts after each effect.
-abbrev pub with-terms : Account → List Term → Account
-with-terms a ts = account-of (a .goals) (a .denied) false (a .subject) ts
-
 -- ---- the states
 
 abbrev pub mode-of : State → Mode
 mode-of start = Start
-mode-of named = Named
+mode-of letter = Letter
 mode-of (column-due xs) = ColumnDue
 mode-of (column xs n) = Column
 mode-of (closed xs) = Closed
@@ -148,7 +144,7 @@ mode-of (done R) = Done
 -- The digits read of a number.
 abbrev pub numeral-of : State → Option ℕ
 numeral-of start = none
-numeral-of named = none
+numeral-of letter = none
 numeral-of (column-due xs) = none
 numeral-of (column xs n) = n
 numeral-of (closed xs) = none
@@ -172,7 +168,7 @@ numeral-of (done R) = none
 -- The head's variables.
 abbrev pub columns-of : State → List ℕ
 columns-of start = []
-columns-of named = []
+columns-of letter = []
 columns-of (column-due xs) = xs
 columns-of (column xs n) = xs
 columns-of (closed xs) = xs
@@ -195,7 +191,7 @@ columns-of (done (rule xs gs)) = xs
 
 abbrev pub account : State → Account
 account start = idle []
-account named = idle []
+account letter = idle []
 account (column-due xs) = idle []
 account (column xs n) = idle []
 account (closed xs) = idle []

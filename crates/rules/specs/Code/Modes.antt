@@ -5,7 +5,7 @@ use mathlib.Core.List.{List, [], _∷_}
 use lib.ListN.{getD}
 use lib.Dec.{eqb}
 use Rattle.rules.specs.declared.mode.Mode.{Mode}
-use Rattle.rules.specs.declared.mode.Mode.the-variants.{Out, Start, Named, ColumnDue, Column, Closed, Colon, GoalDue, DenialN, DenialNo, DenialNot, Denial, Relation, TermDue, Term, Ended, Subject, Spaced, Equals, OtherDue, Other, Done}
+use Rattle.rules.specs.declared.mode.Mode.the-variants.{Out, Start, Letter, ColumnDue, Column, Closed, Colon, GoalDue, DenialN, DenialNo, DenialNot, Denial, Relation, TermDue, Term, Ended, Subject, Spaced, Equals, OtherDue, Other, Done}
 pub mod Laws
 
 -- The mode beside the first of these bytes that is b.
@@ -16,8 +16,8 @@ picked b (t ∷ ts) = cond (eqb b (t .0)) (t .1) (picked b ts)
 -- The bytes that can follow; 0, 48 in ASCII, stands for every digit.
 abbrev pub turns : Mode → List (ℕ × Mode)
 turns Out = []
-turns Start = (113, Named) ∷ []
-turns Named = (40, ColumnDue) ∷ (58, Colon) ∷ []
+turns Start = (113, Letter) ∷ []
+turns Letter = (40, ColumnDue) ∷ (58, Colon) ∷ []
 turns ColumnDue = (88, Column) ∷ []
 turns Column = (48, Column) ∷ (44, ColumnDue) ∷ (41, Closed) ∷ []
 turns Closed = (58, Colon) ∷ []
@@ -46,7 +46,7 @@ next-mode m b = picked b (turns m)
 abbrev pub effect-of : Mode → ℕ → ℕ
 effect-of Out b = 0
 effect-of Start b = 0
-effect-of Named b = 0
+effect-of Letter b = 0
 effect-of ColumnDue b = 0
 effect-of Column b = 1
 effect-of Closed b = 0
@@ -75,7 +75,7 @@ suits e started = getD (true ∷ started ∷ true ∷ started ∷ true ∷ []) e
 abbrev pub stage-of : Mode → ℕ
 stage-of Out = 0
 stage-of Start = 1
-stage-of Named = 1
+stage-of Letter = 1
 stage-of ColumnDue = 1
 stage-of Column = 1
 stage-of Closed = 1

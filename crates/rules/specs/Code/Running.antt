@@ -4,7 +4,7 @@ use native.Mathlib.Omega.{arith}
 use native.Mathlib.Numerals.{add-one}
 use mathlib.Core.Path.{_≡_, refl, sym, ap, subst, _∙_}
 use mathlib.Core.Logic.{_≢_}
-use mathlib.Core.Bool.{false, cond}
+use mathlib.Core.Bool.{false}
 use mathlib.Core.List.{List, [], _∷_}
 use mathlib.Core.Option.{Option, none, some}
 use lib.ListN.{length, getD, take, replicate}
@@ -12,16 +12,15 @@ use lib.Seq.{take-suc, take-all}
 use Rattle.rules.specs.declared.Packing.{Packing}
 use Rattle.rules.specs.declared.draft.Head.{Head}
 use Rattle.rules.specs.declared.draft.Body.{Body}
-use Rattle.rules.specs.declared.scan.Place.{Place}
+use Rattle.rules.specs.declared.scan.Reader.{Reader}
 use Rattle.rules.specs.Grammar.{Rule}
-use Rattle.rules.specs.Meaning.{overstepped}
-use Rattle.rules.specs.Reply.{refused, packed, PackReply}
+use Rattle.rules.specs.Reply.{refused, PackReply, rule-packing}
 use Rattle.rules.specs.Reply.Laws.{stopped-reply, early-reply, rule-reply}
-use Rattle.rules.specs.Code.Automaton.{State, start, named, column-due, column, closed, colon, goal-due, denial-n, denial-no, denial-not, denial, relation, term-due, term, ended, subject, spaced, equals, other-due, other, done, step, stepped, run}
+use Rattle.rules.specs.Code.Automaton.{State, start, letter, column-due, column, closed, colon, goal-due, denial-n, denial-no, denial-not, denial, relation, term-due, term, ended, subject, spaced, equals, other-due, other, done, step, stepped, run}
 use Rattle.rules.specs.Code.Automaton.Laws.{run-append}
 use Rattle.rules.specs.Code.Modes.{stage-of}
-use Rattle.rules.specs.Code.Draft.{Small, put-column}
-use Rattle.rules.specs.Code.Scan.{Draft, Goals, empty-head, empty-body, start-place, place-step, effect-at, draft-at, body-step, draft-step}
+use Rattle.rules.specs.Code.Draft.{Small, put-column, empty-head, empty-body}
+use Rattle.rules.specs.Code.Scan.{Draft, Goals, start-reader, reader-step, effect-at, draft-at, body-step, draft-step}
 use Rattle.rules.specs.Code.Scan.Laws.{mode-stepped, stepped-nothing, stepped-column, stepped-goals}
 use Rattle.rules.specs.Code.Keeping.{mode-of, Kept, KeptAfter}
 use Rattle.rules.specs.Code.Keeping.Steps.{kept-start, kept-step}
@@ -33,7 +32,7 @@ use Rattle.rules.specs.Code.Finish.Laws.{kept-ready, finish-kept}
 -- No state's mode says that no rule goes on.
 live : (s : State) → 1 ≤ stage-of (mode-of s)
 live start = omega arith
-live named = omega arith
+live letter = omega arith
 live (column-due xs) = omega arith
 live (column xs n) = omega arith
 live (closed xs) = omega arith
@@ -55,35 +54,35 @@ live (other xs gs x v n) = omega arith
 live (done R) = omega arith
 
 -- Only the full stop's says that the rule has ended.
-over-at : (s : State) → stage-of (mode-of s) ≡ 2 → (R : Rule) × (s ≡ done R)
-over-at start e = absurd (omega arith)
-over-at named e = absurd (omega arith)
-over-at (column-due xs) e = absurd (omega arith)
-over-at (column xs n) e = absurd (omega arith)
-over-at (closed xs) e = absurd (omega arith)
-over-at (colon xs) e = absurd (omega arith)
-over-at (goal-due xs gs) e = absurd (omega arith)
-over-at (denial-n xs gs) e = absurd (omega arith)
-over-at (denial-no xs gs) e = absurd (omega arith)
-over-at (denial-not xs gs) e = absurd (omega arith)
-over-at (denial xs gs) e = absurd (omega arith)
-over-at (relation xs gs d n) e = absurd (omega arith)
-over-at (term-due xs gs d r ts) e = absurd (omega arith)
-over-at (term xs gs d r ts v n) e = absurd (omega arith)
-over-at (ended xs gs g) e = absurd (omega arith)
-over-at (subject xs gs n) e = absurd (omega arith)
-over-at (spaced xs gs x) e = absurd (omega arith)
-over-at (equals xs gs x) e = absurd (omega arith)
-over-at (other-due xs gs x) e = absurd (omega arith)
-over-at (other xs gs x v n) e = absurd (omega arith)
-over-at (done R) e = (R, refl)
+done-at : (s : State) → stage-of (mode-of s) ≡ 2 → (R : Rule) × (s ≡ done R)
+done-at start e = absurd (omega arith)
+done-at letter e = absurd (omega arith)
+done-at (column-due xs) e = absurd (omega arith)
+done-at (column xs n) e = absurd (omega arith)
+done-at (closed xs) e = absurd (omega arith)
+done-at (colon xs) e = absurd (omega arith)
+done-at (goal-due xs gs) e = absurd (omega arith)
+done-at (denial-n xs gs) e = absurd (omega arith)
+done-at (denial-no xs gs) e = absurd (omega arith)
+done-at (denial-not xs gs) e = absurd (omega arith)
+done-at (denial xs gs) e = absurd (omega arith)
+done-at (relation xs gs d n) e = absurd (omega arith)
+done-at (term-due xs gs d r ts) e = absurd (omega arith)
+done-at (term xs gs d r ts v n) e = absurd (omega arith)
+done-at (ended xs gs g) e = absurd (omega arith)
+done-at (subject xs gs n) e = absurd (omega arith)
+done-at (spaced xs gs x) e = absurd (omega arith)
+done-at (equals xs gs x) e = absurd (omega arith)
+done-at (other-due xs gs x) e = absurd (omega arith)
+done-at (other xs gs x v n) e = absurd (omega arith)
+done-at (done R) e = (R, refl)
 
 -- ---- a text read up to a place
 
 abbrev pub Reached : List ℕ → ℕ → Draft → List ℕ → List ℕ → Type 0
 Reached bs i d cs ns = (s : State) × (run (some start) (take i bs) ≡ some s) × Kept s d cs ns
 
-pub reached-start : (bs : List ℕ) (p : Place) (h : Head) (b : Body) → p ≡ start-place → h ≡ empty-head → b ≡ empty-body → Reached bs 0 (draft-at p h b) (replicate 16 0) (replicate 64 0)
+pub reached-start : (bs : List ℕ) (p : Reader) (h : Head) (b : Body) → p ≡ start-reader → h ≡ empty-head → b ≡ empty-body → Reached bs 0 (draft-at p h b) (replicate 16 0) (replicate 64 0)
 reached-start bs p h b e f g = (start, refl, subst (λ c. Kept start c (replicate 16 0) (replicate 64 0)) (λ i. draft-at (sym e i) (sym f i) (sym g i)) kept-start)
 
 module _ (bs : List ℕ) (i : ℕ) (d : Draft) (cs ns : List ℕ) (r : Reached bs i d cs ns) where
@@ -115,12 +114,12 @@ module _ (bs : List ℕ) (i : ℕ) (d : Draft) (cs ns : List ℕ) (r : Reached b
         go (some s) g k = (s, g, k)
 
 -- The same in two parts, as the code goes: w is the place after the byte, e its effect, g the stage of w.
-module _ (bs : List ℕ) (i : ℕ) (p : Place) (h : Head) (b : Body) (cs ns : List ℕ) (r : Reached bs i (draft-at p h b) cs ns) (l : i < length bs)
-    (w : Place) (f : w ≡ place-step p (getD bs i 0)) (e : ℕ) (k : e ≡ effect-at (p .mode) (getD bs i 0)) (g : ℕ) (z : g ≡ stage-of (w .mode)) where
-  alive : g ≢ 0 → stage-of (place-step p (getD bs i 0) .mode) ≢ 0
+module _ (bs : List ℕ) (i : ℕ) (p : Reader) (h : Head) (b : Body) (cs ns : List ℕ) (r : Reached bs i (draft-at p h b) cs ns) (l : i < length bs)
+    (w : Reader) (f : w ≡ reader-step p (getD bs i 0)) (e : ℕ) (k : e ≡ effect-at (p .mode) (getD bs i 0)) (g : ℕ) (z : g ≡ stage-of (w .mode)) where
+  alive : g ≢ 0 → stage-of (reader-step p (getD bs i 0) .mode) ≢ 0
   alive n o = n (z ∙ ap (λ v. stage-of (v .mode)) f ∙ o)
 
-  on : g ≢ 0 → (c : Head) (a : Body) (ds ms : List ℕ) → _≡_ {A = Draft × (List ℕ × List ℕ)} (draft-at (place-step p (getD bs i 0)) c a, (ds, ms)) (draft-step (draft-at p h b) (getD bs i 0) cs ns)
+  on : g ≢ 0 → (c : Head) (a : Body) (ds ms : List ℕ) → _≡_ {A = Draft × (List ℕ × List ℕ)} (draft-at (reader-step p (getD bs i 0)) c a, (ds, ms)) (draft-step (draft-at p h b) (getD bs i 0) cs ns)
       → Reached bs (i + 1) (draft-at w c a) ds ms
   on n c a ds ms o = reached-next bs i (draft-at p h b) cs ns r l (draft-at w c a) ds ms (ap (λ v. (draft-at v c a, (ds, ms))) f ∙ o) (λ q. n (z ∙ q))
 
@@ -151,7 +150,7 @@ module _ (bs : List ℕ) (i : ℕ) (d : Draft) (cs ns : List ℕ) (r : Reached b
 
   module _ (t : stage-of (d .mode) ≡ 2) where
     whole : (R : Rule) × (r .0 ≡ done R)
-    whole = over-at (r .0) (sym (ap stage-of (r .2 .mode-is)) ∙ t)
+    whole = done-at (r .0) (sym (ap stage-of (r .2 .mode-is)) ∙ t)
 
     kept-whole : Kept (done (whole .0)) d cs ns
     kept-whole = subst (λ s. Kept s d cs ns) (whole .1) (r .2)
@@ -162,5 +161,5 @@ module _ (bs : List ℕ) (i : ℕ) (d : Draft) (cs ns : List ℕ) (r : Reached b
     pub reached-done : (p : Packing) → p ≡ finished (d .head) (d .body) cs ns i → PackReply bs p
     reached-done p g P =
         g ∙ finish-kept (whole .0) d cs ns i kept-whole
-        ∙ ap (λ n. cond (overstepped (whole .0)) (refused n) (packed (whole .0))) l
+        ∙ ap (rule-packing (whole .0)) l
         ∙ sym (rule-reply bs (whole .0) (run-all ∙ ap some (whole .1)) P)

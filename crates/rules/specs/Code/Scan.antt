@@ -2,16 +2,15 @@
 use Prim.Native.Nat.{ℕ, _-_}
 use mathlib.Core.Bool.{Bool, true, false, _&&_, _||_, cond}
 use mathlib.Core.List.{List, [], _∷_}
-use lib.ListN.{getD, replicate}
+use lib.ListN.{getD}
 use lib.Dec.{eqb, ltb}
 use Rattle.rules.specs.declared.mode.Mode.{Mode}
 use Rattle.rules.specs.declared.mode.Mode.the-variants.{Out, Start}
 use Rattle.rules.specs.declared.draft.Head.{Head}
 use Rattle.rules.specs.declared.draft.Body.{Body}
-use Rattle.rules.specs.declared.scan.Place.{Place}
-use Rattle.rules.specs.Meaning.{max-terms}
+use Rattle.rules.specs.declared.scan.Reader.{Reader}
 use Rattle.rules.specs.Code.Modes.{next-mode, effect-of, suits}
-use Rattle.rules.specs.Code.Draft.{capped-more, head-of, put-column, body-of, put-term, put-relation, put-equality}
+use Rattle.rules.specs.Code.Draft.{empty-head, empty-body, capped-more, put-column, body-of, put-term, put-relation, put-equality}
 pub mod Laws
 
 -- All that is kept of a rule beside its constants and nodes: where the reader stands, the head and the goals.
@@ -24,12 +23,6 @@ pub record Draft : Type 0 where
 
 abbrev pub draft-of : Mode → ℕ → Bool → Head → Body → Draft
 draft-of m n s h b = record { mode = m; number = n; started = s; head = h; body = b }
-
-abbrev pub empty-head : Head
-empty-head = head-of (replicate max-terms 0) 0 0 false
-
-abbrev pub empty-body : Body
-empty-body = body-of false false 0 (replicate max-terms 0) 0 (replicate 16 false) 0 0 false
 
 abbrev pub start-draft : Draft
 start-draft = draft-of Start 0 false empty-head empty-body
@@ -105,28 +98,28 @@ draft-step d b cs ns = cond (ltb b 48 || ltb 57 b) (turn-step d b cs ns) (digit-
 
 -- ---- where the reader stands, without the head and the goals
 
-abbrev pub place-of : Mode → ℕ → Bool → Place
-place-of m n s = record { mode = m; number = n; started = s }
+abbrev pub reader-of : Mode → ℕ → Bool → Reader
+reader-of m n s = record { mode = m; number = n; started = s }
 
-abbrev pub start-place : Place
-start-place = place-of Start 0 false
+abbrev pub start-reader : Reader
+start-reader = reader-of Start 0 false
 
-abbrev pub digit-place : Place → ℕ → Place
-digit-place p b = place-of (digit-mode (p .mode) (p .number) (p .started)) (capped-more (p .number) (b - 48)) true
+abbrev pub digit-reader : Reader → ℕ → Reader
+digit-reader p b = reader-of (digit-mode (p .mode) (p .number) (p .started)) (capped-more (p .number) (b - 48)) true
 
 abbrev pub turn-mode : Mode → Bool → ℕ → Mode
 turn-mode m started b = cond (suits (effect-of m b) started) (next-mode m b) Out
 
-abbrev pub turn-place : Place → ℕ → Place
-turn-place p b = place-of (turn-mode (p .mode) (p .started) b) 0 false
+abbrev pub turn-reader : Reader → ℕ → Reader
+turn-reader p b = reader-of (turn-mode (p .mode) (p .started) b) 0 false
 
-abbrev pub place-step : Place → ℕ → Place
-place-step p b = cond (ltb b 48 || ltb 57 b) (turn-place p b) (digit-place p b)
+abbrev pub reader-step : Reader → ℕ → Reader
+reader-step p b = cond (ltb b 48 || ltb 57 b) (turn-reader p b) (digit-reader p b)
 
 -- What a byte does. A digit does nothing to the head and the goals.
 abbrev pub effect-at : Mode → ℕ → ℕ
 effect-at m b = cond (ltb b 48 || ltb 57 b) (effect-of m b) 0
 
 -- The draft of a place, a head and goals.
-abbrev pub draft-at : Place → Head → Body → Draft
+abbrev pub draft-at : Reader → Head → Body → Draft
 draft-at p h b = draft-of (p .mode) (p .number) (p .started) h b

@@ -8,13 +8,13 @@ use mathlib.Core.Bool.{Bool, true, false, cond}
 use mathlib.Core.List.{List, [], _∷_, _++_, map, append-nil, append-assoc}
 use lib.ListN.{length, getD}
 use Rattle.calculus.specs.Sets.{In, here, there, _⊆_, union-of, member}
-use Rattle.calculus.specs.Sets.Laws.{in-nil, in-one, in-cons, in-left, in-right, in-append, union-append, reflects-member}
+use Rattle.calculus.specs.Sets.Laws.{in-nil, in-one, in-cons, in-left, in-right, in-append, reflects-member}
 use Rattle.calculus.specs.Reflects.{Reflects, holds as met, fails as missed}
 use Rattle.calculus.specs.Reflects.Laws.{reflects-eqb}
 use Rattle.calculus.specs.Formula.{con, Fmla, rel, eq, neg, conj}
 use Rattle.calculus.specs.Satisfaction.{Pool}
 use Rattle.rules.specs.Grammar.{Several, several, all, Term, variable, value, Goal, holds, fails, equal}
-use Rattle.rules.specs.Meaning.{term-values, goal-values, values-in, added, pooled, pool-of, place-in, term-in, goal-formula, joined, matrix}
+use Rattle.rules.specs.Meaning.{term-values, goal-values, values-in, added, pooled, pool-of, place-in, term-in, goal-formula, conjoined, matrix}
 
 -- ---- how the pool grows
 
@@ -153,20 +153,14 @@ module _ (pool : Pool) (vs : List ℕ) where
   goal-stable (fails r ts) h = ap (λ us. neg (rel r us)) (terms-stable (all ts) h)
   goal-stable (equal x t) h = ap (eq x) (term-stable t (λ v i. h v (in-left [] i)))
 
-  -- Goals whose values are in the pool are joined to the same formula.
-  pub joined-stable : (φ ψ : Fmla) → φ ≡ ψ → (gs : List Goal) → values-in gs ⊆ pool → joined (pooled pool vs) φ gs ≡ joined pool ψ gs
-  joined-stable φ ψ e [] h = e
-  joined-stable φ ψ e (g ∷ gs) h =
-      joined-stable (conj φ (goal-formula (pooled pool vs) g)) (conj ψ (goal-formula pool g))
+  -- Goals whose values are in the pool are conjoined to the same formula.
+  pub conjoined-stable : (φ ψ : Fmla) → φ ≡ ψ → (gs : List Goal) → values-in gs ⊆ pool → conjoined (pooled pool vs) φ gs ≡ conjoined pool ψ gs
+  conjoined-stable φ ψ e [] h = e
+  conjoined-stable φ ψ e (g ∷ gs) h =
+      conjoined-stable (conj φ (goal-formula (pooled pool vs) g)) (conj ψ (goal-formula pool g))
       (λ i. conj (e i) (goal-stable g (λ v j. h v (in-left (values-in gs) j)) i)) gs (λ v j. h v (in-right (goal-values g) j))
 
   -- Goals whose values are in the pool keep their formula.
   pub matrix-stable : (gs : Several Goal) → values-in (all gs) ⊆ pool → matrix (pooled pool vs) gs ≡ matrix pool gs
   matrix-stable (several g gs) h =
-      joined-stable (goal-formula (pooled pool vs) g) (goal-formula pool g) (goal-stable g (λ v j. h v (in-left (values-in gs) j))) gs (λ v j. h v (in-right (goal-values g) j))
-
--- ---- goals one after the other
-
--- Further goals add their values to the pool.
-pub pool-of-append : (gs hs : List Goal) → pool-of (gs ++ hs) ≡ pooled (pool-of gs) (values-in hs)
-pool-of-append gs hs = ap (pooled []) (union-append goal-values gs hs) ∙ pooled-append [] (values-in gs) (values-in hs)
+      conjoined-stable (goal-formula (pooled pool vs) g) (goal-formula pool g) (goal-stable g (λ v j. h v (in-left (values-in gs) j))) gs (λ v j. h v (in-right (goal-values g) j))

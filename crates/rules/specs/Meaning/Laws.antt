@@ -6,18 +6,18 @@ use Rattle.calculus.specs.Sets.{In, here, there}
 use Rattle.calculus.specs.Formula.{Fmla, conj, exists}
 use Rattle.calculus.specs.Satisfaction.{Pool}
 use Rattle.rules.specs.Grammar.{Several, several, all, Goal, Rule, rule}
-use Rattle.rules.specs.Meaning.{goals, pool-of, goal-formula, joined, matrix, bound, quantified, formula-of}
+use Rattle.rules.specs.Meaning.{goals, pool-of, goal-formula, conjoined, matrix, bound, quantified, formula-of}
 
--- Further goals are joined to the formula of those before them.
-pub joined-append : (pool : Pool) (φ : Fmla) (gs hs : List Goal) → joined pool φ (gs ++ hs) ≡ joined pool (joined pool φ gs) hs
-joined-append pool φ [] hs = refl
-joined-append pool φ (g ∷ gs) hs = joined-append pool (conj φ (goal-formula pool g)) gs hs
+-- Further goals are conjoined to the formula of those before them.
+pub conjoined-append : (pool : Pool) (φ : Fmla) (gs hs : List Goal) → conjoined pool φ (gs ++ hs) ≡ conjoined pool (conjoined pool φ gs) hs
+conjoined-append pool φ [] hs = refl
+conjoined-append pool φ (g ∷ gs) hs = conjoined-append pool (conj φ (goal-formula pool g)) gs hs
 
 -- ---- a property that every part keeps
 
 module _ (P : Fmla → Type 0) where
   module _ (joins : (φ ψ : Fmla) → P φ → P ψ → P (conj φ ψ)) (pool : Pool) where
-    joined-induction : (φ : Fmla) (gs : List Goal) → P φ → ((g : Goal) → In g gs → P (goal-formula pool g)) → P (joined pool φ gs)
+    joined-induction : (φ : Fmla) (gs : List Goal) → P φ → ((g : Goal) → In g gs → P (goal-formula pool g)) → P (conjoined pool φ gs)
     joined-induction φ [] p h = p
     joined-induction φ (g ∷ gs) p h = joined-induction (conj φ (goal-formula pool g)) gs (joins φ (goal-formula pool g) p (h g (here refl))) (λ f i. h f (there i))
 

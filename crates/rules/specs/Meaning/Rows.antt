@@ -8,7 +8,7 @@ use mathlib.Core.List.{List, [], _∷_, map}
 use lib.ListN.{length, length-map}
 use lib.Dec.{ltb}
 use Rattle.calculus.specs.Sets.{In, here, there, _⊆_, union-of}
-use Rattle.calculus.specs.Sets.Laws.{in-nil, in-cons, in-rest, in-left, in-right, in-union}
+use Rattle.calculus.specs.Sets.Laws.{in-nil, in-cons, in-left, in-right, in-union}
 use Rattle.calculus.specs.Reflects.Iff.{iff-path, iff-eq}
 use Rattle.calculus.specs.Order.{Ascending, before}
 use Rattle.calculus.specs.Order.Laws.{ltb-order, below-differs}
@@ -16,8 +16,9 @@ use Rattle.calculus.specs.Formula.{Fmla, conj, fv}
 use Rattle.calculus.specs.Satisfaction.{Pool, fact, Database, Env, bind, Sat, values, value as value-of}
 use Rattle.calculus.specs.Satisfaction.Laws.{bind-same, bind-other, bind-cases, sat-cong}
 use Rattle.calculus.specs.Rows.{Row, row-env, RowSat, Right, listed}
+use Rattle.calculus.specs.Rows.Laws.{map-same, row-env-of}
 use Rattle.rules.specs.Grammar.{Several, several, all, Term, variable, value, Goal, holds, fails, equal, Rule, rule}
-use Rattle.rules.specs.Meaning.{head, goals, term-values, goal-values, values-in, term-value, GoalTrue, RuleRow, pool-of, term-in, goal-formula, joined, matrix, bound, quantified, formula-of, overstepped}
+use Rattle.rules.specs.Meaning.{head, goals, term-values, goal-values, values-in, term-value, GoalTrue, RuleRow, pool-of, term-in, goal-formula, conjoined, matrix, bound, quantified, formula-of, overstepped}
 use Rattle.rules.specs.Meaning.Constants.{in-pool-of, place-holds}
 use Rattle.rules.specs.Meaning.Limits.{Within, within}
 use Rattle.rules.specs.Meaning.Variables.{matrix-free, unbound-head, head-unbound}
@@ -49,7 +50,7 @@ module _ (pool : Pool) (D : Database) (σ : Env) where
       each t s f (here e) = subst⁻¹ (GoalTrue D σ) e t
       each t s f (there i) = s f i
 
-  joined-means : (φ : Fmla) (gs : List Goal) → values-in gs ⊆ pool → Sat pool D (joined pool φ gs) σ ↔ (Sat pool D φ σ × ((g : Goal) → In g gs → GoalTrue D σ g))
+  joined-means : (φ : Fmla) (gs : List Goal) → values-in gs ⊆ pool → Sat pool D (conjoined pool φ gs) σ ↔ (Sat pool D φ σ × ((g : Goal) → In g gs → GoalTrue D σ g))
   joined-means φ [] h = (λ s. (s, λ g i. absurd (in-nil i)), λ s. s .0)
   joined-means φ (g ∷ gs) h =
       let rest = joined-means (conj φ (goal-formula pool g)) gs (λ v i. h v (in-right (goal-values g) i)) in
@@ -87,14 +88,6 @@ module _ (pool : Pool) (D : Database) where
 
 -- ---- rows
 
-map-same : (f g : ℕ → ℕ) (xs : List ℕ) → ((x : ℕ) → In x xs → f x ≡ g x) → map f xs ≡ map g xs
-map-same f g [] h = refl
-map-same f g (x ∷ xs) h = λ i. h x (here refl) i ∷ map-same f g xs (λ y j. h y (there j)) i
-
--- The row of an assignment gives the columns the assignment's values.
-row-env-of : (τ : Env) (cols : List ℕ) (x : ℕ) → In x cols → row-env cols (map τ cols) x ≡ τ x
-row-env-of τ (c ∷ cols) x i = bind-cases (λ v. v ≡ τ x) c (τ c) (row-env cols (map τ cols)) x (λ e. ap τ (sym e)) (λ n. row-env-of τ cols x (in-rest i n))
-
 -- A row is the row of the assignment that gives the columns its values.
 row-env-own : (cols : List ℕ) (w : Row) → Ascending ltb cols → length w ≡ length cols → map (row-env cols w) cols ≡ w
 row-env-own [] [] a e = refl
@@ -108,23 +101,23 @@ row-env-own (c ∷ cols) (v ∷ w) (before h a) e = λ i. bind-same c v (row-env
 -- ---- the rows of a rule
 
 module _ (xs : List ℕ) (gs : Several Goal) (D : Database) (w : Row) where
-  abbrev R : Rule
-  R = rule xs gs
+  abbrev whole : Rule
+  whole = rule xs gs
 
   abbrev φ : Fmla
   φ = matrix (pool-of (all gs)) gs
 
-  satisfied : Within R → length w ≡ length xs → (τ : Env) × Varies (bound R) φ (row-env xs w) τ × Sat (pool-of (all gs)) D φ τ → RuleRow D R w
+  satisfied : Within whole → length w ≡ length xs → (τ : Env) × Varies (bound whole) φ (row-env xs w) τ × Sat (pool-of (all gs)) D φ τ → RuleRow D whole w
   satisfied k e (τ, h, s) = (τ, map-same τ (row-env xs w) xs column ∙ row-env-own xs w (k .ascends) e, matrix-means (pool-of (all gs)) D τ gs (in-pool-of (all gs)) .0 s)
     where
       column : (x : ℕ) → In x xs → τ x ≡ row-env xs w x
-      column x i = h x (subst⁻¹ (In x) (matrix-free (pool-of (all gs)) gs) (k .stands x i)) (head-unbound R x i)
+      column x i = h x (subst⁻¹ (In x) (matrix-free (pool-of (all gs)) gs) (k .stands x i)) (head-unbound whole x i)
 
-  satisfies : RuleRow D R w → (length w ≡ length xs) × ((τ : Env) × Varies (bound R) φ (row-env xs w) τ × Sat (pool-of (all gs)) D φ τ)
+  satisfies : RuleRow D whole w → (length w ≡ length xs) × ((τ : Env) × Varies (bound whole) φ (row-env xs w) τ × Sat (pool-of (all gs)) D φ τ)
   satisfies (σ, e, t) = (ap length (sym e) ∙ length-map xs σ, (σ, column, matrix-means (pool-of (all gs)) D σ gs (in-pool-of (all gs)) .1 t))
     where
-      column : Varies (bound R) φ (row-env xs w) σ
-      column x i n = sym (row-env-of σ xs x (unbound-head R x (subst (In x) (matrix-free (pool-of (all gs)) gs) i) n)) ∙ ap (λ u. row-env xs u x) e
+      column : Varies (bound whole) φ (row-env xs w) σ
+      column x i n = sym (row-env-of σ xs x (unbound-head whole x (subst (In x) (matrix-free (pool-of (all gs)) gs) i) n)) ∙ ap (λ u. row-env xs u x) e
 
 -- The rows that satisfy a rule's query are the rows of the rule.
 pub rule-row : (R : Rule) → overstepped R ≡ false → (D : Database) (w : Row) → RowSat (pool-of (goals R)) D (formula-of R) (head R) w ↔ RuleRow D R w

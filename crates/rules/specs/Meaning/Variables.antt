@@ -14,7 +14,7 @@ use Rattle.calculus.specs.Formula.{Fmla, conj, fv-term, fv-terms, fv}
 use Rattle.calculus.specs.Satisfaction.{Pool}
 use Rattle.calculus.specs.Generators.{columns}
 use Rattle.rules.specs.Grammar.{Several, several, all, Term, variable, value, Goal, holds, fails, equal, Rule, rule}
-use Rattle.rules.specs.Meaning.{head, goals, term-variables, goal-variables, variables-in, pool-of, term-in, goal-formula, joined, matrix, bound, quantified, formula-of, overstepped}
+use Rattle.rules.specs.Meaning.{head, goals, term-variables, goal-variables, variables-in, pool-of, term-in, goal-formula, conjoined, matrix, bound, quantified, formula-of, overstepped}
 use Rattle.rules.specs.Meaning.Limits.{Within, within}
 
 -- ---- of the goals
@@ -34,7 +34,7 @@ module _ (pool : Pool) where
   goal-free (fails r ts) = terms-free (all ts)
   goal-free (equal x t) = ap (λ xs. x ∷ xs) (term-free t ∙ sym (append-nil (term-variables t)))
 
-  joined-free : (φ : Fmla) (gs : List Goal) → fv (joined pool φ gs) ≡ fv φ ++ variables-in gs
+  joined-free : (φ : Fmla) (gs : List Goal) → fv (conjoined pool φ gs) ≡ fv φ ++ variables-in gs
   joined-free φ [] = sym (append-nil (fv φ))
   joined-free φ (g ∷ gs) =
       joined-free (conj φ (goal-formula pool g)) gs
@@ -44,10 +44,6 @@ module _ (pool : Pool) where
   -- The free variables of the goals' formula are the goals', in their order.
   pub matrix-free : (gs : Several Goal) → fv (matrix pool gs) ≡ variables-in (all gs)
   matrix-free (several g gs) = joined-free (goal-formula pool g) gs ∙ ap (λ xs. xs ++ variables-in gs) (goal-free g)
-
-  -- The same as a test of membership.
-  pub matrix-variables : (gs : Several Goal) (x : ℕ) → member x (fv (matrix pool gs)) ≡ member x (variables-in (all gs))
-  matrix-variables gs x = ap (member x) (matrix-free gs)
 
 -- ---- under the quantifiers
 

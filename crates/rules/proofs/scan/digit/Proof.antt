@@ -1,7 +1,7 @@
 -- `rules::scan::digit` meets its contract, part by part.
 use borrow.Author.Needs.{needs}
 use mathlib.Core.Bool.{true}
-use Rattle.rules.specs.Code.Scan.{place-of}
+use Rattle.rules.specs.Code.Scan.{reader-of}
 use Rattle.rules.proofs.scan.digit.Statement.{statement}
 use Rattle.rules.proofs.scan.digit.Tie as tie
 
@@ -18,7 +18,7 @@ more-requires : tie.Need-more-requires
 more-requires c κs = search needs
 
 returns : tie.Need-returns
-returns c = λ i. place-of (c .before .digit-mode .ensures i) (c .more .ensures i) true
+returns c = λ i. reader-of (c .before .digit-mode .ensures i) (c .more .ensures i) true
 
 pub digit-spec : {M : Type 1} → statement M
 digit-spec = tie.close (tie.spec digit-mode-requires sub-more cast-more more-requires returns)

@@ -7,7 +7,7 @@ use mathlib.Core.List.{List, [], _∷_, _++_}
 use mathlib.Core.Option.{Option, none, some}
 use native.Mathlib.Omega.{arith}
 use Rattle.rules.specs.Grammar.{Term, Goal, Rule, rule, equal}
-use Rattle.rules.specs.Code.Automaton.{State, start, named, column-due, column, closed, colon, goal-due, denial-n, denial-no, denial-not, denial, relation, term-due, term, ended, subject, spaced, equals, other-due, other, done, Move, _to_, digit-moves, after, and-last, term-of, relation-goal, moves, chosen, step, run}
+use Rattle.rules.specs.Code.Automaton.{State, start, letter, column-due, column, closed, colon, goal-due, denial-n, denial-no, denial-not, denial, relation, term-due, term, ended, subject, spaced, equals, other-due, other, done, Move, _to_, digit-moves, after, and-last, term-of, relation-goal, moves, chosen, step, run}
 use Rattle.rules.specs.Code.Automaton.Laws.{run-none, none-not-some, after-column, after-term, after-goal, no-digit, chosen-passed, chosen-first}
 
 -- Some text leads from the state to a rule.
@@ -100,13 +100,13 @@ from-closed xs = by-step (closed xs) 58 refl (from-colon xs)
 from-column : (xs : List ℕ) (n : Option ℕ) → Completed (column xs n)
 from-column xs = by-number (column xs) (after-column xs) (λ n. refl) 41 (omega arith) (λ x. closed (xs ++ (x ∷ []))) (λ x. refl) (λ x. from-closed (xs ++ (x ∷ [])))
 
-from-named : Completed named
-from-named = by-step named 58 refl (from-colon [])
+from-letter : Completed letter
+from-letter = by-step letter 58 refl (from-colon [])
 
 -- Every state can be completed.
 pub completed : (s : State) → (rest : List ℕ) × (R : Rule) × (run (some s) rest ≡ some (done R))
-completed start = by-step start 113 refl from-named
-completed named = from-named
+completed start = by-step start 113 refl from-letter
+completed letter = from-letter
 completed (column-due xs) = by-step (column-due xs) 88 refl (from-column xs none)
 completed (column xs n) = from-column xs n
 completed (closed xs) = from-closed xs

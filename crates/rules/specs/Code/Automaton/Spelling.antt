@@ -13,7 +13,7 @@ use Rattle.calculus.specs.Decimal.{numeral}
 use Rattle.calculus.specs.Decimal.Laws.{numeral-digit, numeral-more}
 use Rattle.rules.specs.Grammar.{Several, several, Term, Goal, equal, rule, parted, bracketed, variable-text, term-text, relation-text, goal-text, head-text}
 use Rattle.rules.specs.Code.Automaton.Laws.{run-none, none-not-some, after-column, after-term, after-goal}
-use Rattle.rules.specs.Code.Automaton.{State, start, named, column-due, column, closed, colon, goal-due, denial-n, denial-no, denial-not, denial, relation, term-due, term, ended, subject, spaced, equals, other-due, other, done, Move, _to_, digit-moves, after, and-last, term-of, relation-goal, moves, chosen, step, run, due, begun, name, not-text, to-goal, to-relation, to-term, spelled}
+use Rattle.rules.specs.Code.Automaton.{State, start, letter, column-due, column, closed, colon, goal-due, denial-n, denial-no, denial-not, denial, relation, term-due, term, ended, subject, spaced, equals, other-due, other, done, Move, _to_, digit-moves, after, and-last, term-of, relation-goal, moves, chosen, step, run, due, begun, name, not-text, to-goal, to-relation, to-term, spelled}
 
 -- ---- texts with one thing more at the end
 
@@ -189,7 +189,7 @@ module _ (xs : List ℕ) (gs : List Goal) where
 
 spell-moves : (s : State) → Spell (spelled s) (moves s)
 spell-moves start = (refl, tt)
-spell-moves named = (refl, (refl, tt))
+spell-moves letter = (refl, (refl, tt))
 spell-moves (column-due xs) = (refl, tt)
 spell-moves (column xs n) = spell-column xs n
 spell-moves (closed xs) = (refl, tt)

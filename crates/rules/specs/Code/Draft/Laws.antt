@@ -1,5 +1,5 @@
 -- Laws of what the code keeps of a rule: of numbers past all limits, of places among the constants, and of nodes added one by one.
-use Prim.Native.Nat.{ℕ, suc, _+_, _-_, _≤_, _<_}
+use Prim.Native.Nat.{ℕ, suc, _+_, _-_, _≤_, _<_, _*_}
 use native.Mathlib.Omega.{arith}
 use native.Mathlib.Numerals.{add-one}
 use mathlib.Core.Path.{_≡_, refl, sym, ap, subst, _∙_}
@@ -15,7 +15,7 @@ use Rattle.query.specs.Reading.{max-nodes}
 use Rattle.query.specs.Nodes.{not-word, join-word}
 use Rattle.rules.specs.Meaning.{place-in, max-terms}
 use Rattle.rules.specs.declared.draft.Body.{Body}
-use Rattle.rules.specs.Code.Draft.{past, capped, overrun, unnamed, put-variable, put-constant, put-term, Nodes, add-word, deny-goal, join-goal, onward, append-goal, fresh-goal, settled}
+use Rattle.rules.specs.Code.Draft.{past, capped, capped-more, overrun, unnamed, put-variable, put-constant, put-term, Nodes, add-word, deny-goal, join-goal, onward, append-goal, fresh-goal, settled}
 
 -- ---- numbers
 
@@ -28,6 +28,38 @@ capped-past n h = go (reflects-ltb past n)
 
 pub capped-within : (n : ℕ) → n ≤ past → capped n ≡ n
 capped-within n h = rw (le-ltb past n h)
+
+-- The code's number is no larger than the number read.
+pub capped-le : (n : ℕ) → capped n ≤ n
+capped-le n = go (reflects-ltb past n)
+  where
+    go : {b : Bool} → Reflects (past < n) b → cond b past n ≤ n
+    go (holds l) = omega arith
+    go (fails g) = omega arith
+
+-- It is the number read where it is not past all limits.
+pub capped-below : (n : ℕ) → capped n < past → capped n ≡ n
+capped-below n = go (reflects-ltb past n)
+  where
+    go : {b : Bool} → Reflects (past < n) b → cond b past n < past → cond b past n ≡ n
+    go (holds l) h = absurd (omega arith)
+    go (fails g) h = refl
+
+-- It is 0 only where the number read is.
+pub capped-positive : (n : ℕ) → ¬ (capped (suc n) ≡ 0)
+capped-positive n = go (reflects-ltb past (suc n))
+  where
+    go : {b : Bool} → Reflects (past < suc n) b → ¬ (cond b past (suc n) ≡ 0)
+    go (holds l) e = omega arith
+    go (fails g) e = omega arith
+
+-- A digit more makes the same of the code's number as of the number read.
+pub capped-more-capped : (n d : ℕ) → capped-more (capped n) d ≡ capped (n * 10 + d)
+capped-more-capped n d = go (reflects-ltb past n)
+  where
+    go : {b : Bool} → Reflects (past < n) b → capped-more (cond b past n) d ≡ capped (n * 10 + d)
+    go (holds l) = capped-past (past * 10 + d) (omega arith) ∙ sym (capped-past (n * 10 + d) (omega arith))
+    go (fails g) = refl
 
 -- ---- places among the constants
 

@@ -27,7 +27,7 @@ use Rattle.rules.specs.Grammar.{Several, several, all, Goal, holds, fail
 use Rattle.rules.specs.Meaning.{goals, goal-terms, variables-in, values-in, pooled, pool-of, matrix, bound, formula-of, max-terms, crowded, overstepped}
 use Rattle.rules.specs.Meaning.Limits.{Within, within, not-overstepped}
 use Rattle.rules.specs.Meaning.Packing.{length-bytes-of, bytes-short}
-use Rattle.rules.specs.Reply.{max-bytes, bytes-of, refused, packed}
+use Rattle.rules.specs.Reply.{max-bytes, bytes-of, refused, packed, rule-packing}
 use Rattle.rules.specs.Code.Scan.{Draft}
 use Rattle.rules.specs.Code.Automaton.{done}
 use Rattle.rules.specs.Code.Draft.{Nodes, Small}
@@ -144,9 +144,9 @@ stored-packing cs ns h = λ i. record { answer = Done; query = query-of cs ns; b
         ∙ front-padded max-bytes (packed-bytes cs ns) h
 
 -- So a rule's constants and the nodes of its formula are packed to the rule's reply.
-rule-packing : (R : Rule) → overstepped R ≡ false
+packed-stored : (R : Rule) → overstepped R ≡ false
     → packing-of (padded max-constants 0 (pool-of (goals R))) (length (pool-of (goals R))) (padded max-nodes 0 (words (formula-of R) 0)) (size (formula-of R)) ≡ packed R
-rule-packing R e =
+packed-stored R e =
     ap (packing-of (padded max-constants 0 (pool-of (goals R))) (length (pool-of (goals R))) (padded max-nodes 0 (words (formula-of R) 0))) (sym (length-words (formula-of R) 0))
     ∙ stored-packing (pool-of (goals R)) (words (formula-of R) 0) (bytes-short R e)
     ∙ ap (packing-with (pool-of (goals R)) (words (formula-of R) 0)) sizes
@@ -156,14 +156,10 @@ rule-packing R e =
 
 -- ---- the end of a rule
 
--- What a rule comes to, in a text of n bytes.
-abbrev reply-to : Rule → ℕ → Packing
-reply-to R n = cond (overstepped R) (refused n) (packed R)
-
-reply-refused : (R : Rule) (n : ℕ) → ¬ Within R → refused n ≡ reply-to R n
+reply-refused : (R : Rule) (n : ℕ) → ¬ Within R → refused n ≡ rule-packing R n
 reply-refused R n k = sym (ap (λ t. cond t (refused n) (packed R)) (breaks-overstepped R k))
 
-reply-packed : (R : Rule) (n : ℕ) → Within R → packed R ≡ reply-to R n
+reply-packed : (R : Rule) (n : ℕ) → Within R → packed R ≡ rule-packing R n
 reply-packed R n w = sym (ap (λ t. cond t (refused n) (packed R)) (not-overstepped R w))
 
 -- Head and goals are stored: the head's variables that no goal has, and the quantifiers.
@@ -203,41 +199,41 @@ module _ (xs : List ℕ) (gs : Several Goal) (h : Head) (b : Body) (cs ns : List
       (bind-full (rule xs gs) (is-bound h (b .seen)) goal-variables-small reflects-bound (inner gs) (omega (arith, fits .few-nodes, count-idle gs)) l)
 
   module _ (n : ℕ) where
-    packs : Within (rule xs gs) → quantified-reply b cs all-nodes n ≡ reply-to (rule xs gs) n
+    packs : Within (rule xs gs) → quantified-reply b cs all-nodes n ≡ rule-packing (rule xs gs) n
     packs w =
         ap (λ a. quantified-reply b cs a n) (nodes-with-room (w .few-nodes))
         ∙ ap (λ t. cond t (refused n) (packing-of cs (b .constants) (padded max-nodes 0 (words (formula-of (rule xs gs)) 0)) (size (formula-of (rule xs gs))))) (le-ltb max-nodes (size (formula-of (rule xs gs))) (w .few-nodes))
         ∙ (λ i. packing-of ((stored .pool-is ∙ ap (padded max-constants 0) (pool-idle (all gs))) i) ((stored .constants-is ∙ ap length (pool-idle (all gs))) i) (padded max-nodes 0 (words (formula-of (rule xs gs)) 0)) (size (formula-of (rule xs gs))))
-        ∙ rule-packing (rule xs gs) (not-overstepped (rule xs gs) w)
+        ∙ packed-stored (rule xs gs) (not-overstepped (rule xs gs) w)
         ∙ reply-packed (rule xs gs) n w
 
-    refuses : max-nodes < size (formula-of (rule xs gs)) → quantified-reply b cs all-nodes n ≡ reply-to (rule xs gs) n
+    refuses : max-nodes < size (formula-of (rule xs gs)) → quantified-reply b cs all-nodes n ≡ rule-packing (rule xs gs) n
     refuses l =
         ap (λ t. cond t (refused n) (packing-of cs (b .constants) (all-nodes .1) (all-nodes .0))) (lt-ltb max-nodes (all-nodes .0) (nodes-without-room l))
         ∙ reply-refused (rule xs gs) n (λ w. omega (arith, w .few-nodes))
 
-    quantifies : ((x : ℕ) → In x xs → In x (variables-in (all gs))) → quantified-reply b cs all-nodes n ≡ reply-to (rule xs gs) n
+    quantifies : ((x : ℕ) → In x xs → In x (variables-in (all gs))) → quantified-reply b cs all-nodes n ≡ rule-packing (rule xs gs) n
     quantifies s = go (reflects-leb (size (formula-of (rule xs gs))) max-nodes)
       where
-        go : {t : Bool} → Reflects (size (formula-of (rule xs gs)) ≤ max-nodes) t → quantified-reply b cs all-nodes n ≡ reply-to (rule xs gs) n
+        go : {t : Bool} → Reflects (size (formula-of (rule xs gs)) ≤ max-nodes) t → quantified-reply b cs all-nodes n ≡ rule-packing (rule xs gs) n
         go (met l) = packs (fine-within xs gs fine fits s l)
         go (missed k) = refuses (omega arith)
 
     -- The reply where no limit was passed so far.
-    finish-stored : cond (any-of (λ x. not (getD (b .seen) x false)) (take (h .count) (h .variables))) (refused n) (quantified-reply b cs all-nodes n) ≡ reply-to (rule xs gs) n
+    finish-stored : cond (any-of (λ x. not (getD (b .seen) x false)) (take (h .count) (h .variables))) (refused n) (quantified-reply b cs all-nodes n) ≡ rule-packing (rule xs gs) n
     finish-stored = go reflects-missing
       where
-        go : {t : Bool} → Reflects (Any (λ x. ¬ In x (variables-in (all gs))) xs) t → cond t (refused n) (quantified-reply b cs all-nodes n) ≡ reply-to (rule xs gs) n
+        go : {t : Bool} → Reflects (Any (λ x. ¬ In x (variables-in (all gs))) xs) t → cond t (refused n) (quantified-reply b cs all-nodes n) ≡ rule-packing (rule xs gs) n
         go (met s) = reply-refused (rule xs gs) n (λ w. s .2 (w .stands (s .0) (s .1)))
         go (missed k) = quantifies (λ x i. ⊎-elim (λ j. j) (λ m. absurd (k (x, i, m))) (decided (reflects-member x (variables-in (all gs)))))
 
 -- A rule that was kept is finished with its packed query, or with a refusal where it oversteps a limit.
-pub finish-kept : (R : Rule) (d : Draft) (cs ns : List ℕ) (n : ℕ) → Kept (done R) d cs ns → finished (d .head) (d .body) cs ns n ≡ cond (overstepped R) (refused n) (packed R)
+pub finish-kept : (R : Rule) (d : Draft) (cs ns : List ℕ) (n : ℕ) → Kept (done R) d cs ns → finished (d .head) (d .body) cs ns n ≡ rule-packing R n
 finish-kept (rule xs gs) d cs ns n k = go (d .head .over) refl (d .body .over) refl
   where
     go : (t : Bool) → d .head .over ≡ t → (u : Bool) → d .body .over ≡ u
         → cond t (refused n) (cond u (refused n) (cond (any-of (λ x. not (getD (d .body .seen) x false)) (take (d .head .count) (d .head .variables))) (refused n) (quantified-reply (d .body) cs (bind-all (bound-down (is-bound (d .head) (d .body .seen)) 16) (d .body .nodes) ns) n)))
-        ≡ reply-to (rule xs gs) n
+        ≡ rule-packing (rule xs gs) n
     go true e u f = reply-refused (rule xs gs) n (λ w. k .head-keeps .head-judged e (within-head xs gs w))
     go false e true f = reply-refused (rule xs gs) n (λ w. k .body-keeps .judged f (within-goals xs gs w))
     go false e false f = let (fine, kept) = k .head-keeps .head-stored e in let (fits, stored) = k .body-keeps .stored f in finish-stored xs gs (d .head) (d .body) cs ns fine kept fits stored n

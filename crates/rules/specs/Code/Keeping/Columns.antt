@@ -15,10 +15,11 @@ use Rattle.calculus.specs.Reflects.{Reflects, holds, fails}
 use Rattle.calculus.specs.Reflects.Laws.{reflects-ltb, reflects-leb, reflects-or}
 use Rattle.rules.specs.declared.draft.Head.{Head}
 use Rattle.rules.specs.Meaning.{max-terms, max-number}
-use Rattle.rules.specs.Code.Draft.{capped, head-of, put-column}
-use Rattle.rules.specs.Code.Scan.{empty-head}
+use Rattle.rules.specs.Code.Draft.Bounds.{set-each}
+use Rattle.rules.specs.Code.Draft.Laws.{capped-le, capped-below}
+use Rattle.rules.specs.Code.Draft.{capped, head-of, put-column, empty-head}
 use Rattle.rules.specs.Code.Keeping.{HeadFine, HeadStored, HeadKeeps}
-use Rattle.rules.specs.Code.Keeping.Laws.{capped-le, capped-below, set-each, copies-each}
+use Rattle.rules.specs.Code.Keeping.Laws.{copies-each}
 
 -- ---- ascending numbers with one more at the end
 

@@ -21,13 +21,14 @@ use Rattle.query.specs.Packing.{term-code, code-at, words}
 use Rattle.query.specs.Packing.Laws.{length-words}
 use Rattle.rules.specs.declared.draft.Body.{Body}
 use Rattle.rules.specs.Grammar.{Several, all, Term, Goal, equal}
-use Rattle.rules.specs.Meaning.{term-variables, term-values, goal-relations, goal-variables, goal-values, relations-in, variables-in, values-in, pooled, term-in, goal-formula, joined, max-terms, max-number, crowded}
-use Rattle.rules.specs.Meaning.Laws.{joined-append}
+use Rattle.rules.specs.Meaning.{term-variables, term-values, goal-relations, goal-variables, goal-values, relations-in, variables-in, values-in, pooled, term-in, goal-formula, conjoined, max-terms, max-number, crowded}
+use Rattle.rules.specs.Meaning.Laws.{conjoined-append}
+use Rattle.rules.specs.Code.Draft.Laws.{capped-le, capped-below}
 use Rattle.rules.specs.Code.Automaton.{and-last, term-of, relation-goal}
 use Rattle.rules.specs.Code.Draft.{capped, overrun, Small, Nodes, append-goal, fresh-goal, settled, with-subject}
 use Rattle.rules.specs.Code.Scan.{term-step, relation-step, equality-step, body-step}
 use Rattle.rules.specs.Code.Keeping.{Account, account-of, idle, values-of, variables-of, pool, goal-nodes, code-of, Fine, Stored, Keeps, KeepsAll}
-use Rattle.rules.specs.Code.Keeping.Laws.{capped-le, capped-below, union-last, copies-each, past-limit, keeps-overrun, within-limits, keeps-guarded}
+use Rattle.rules.specs.Code.Keeping.Laws.{union-last, copies-each, past-limit, keeps-overrun, within-limits, keeps-guarded}
 use Rattle.rules.specs.Code.Keeping.Terms.{seen-more, fine-earlier, keeps-term-step}
 use Rattle.rules.specs.Code.Keeping.Nodes.{Laid, laid, no-room, own-nodes, next-nodes, append-laid, nodes-last}
 
@@ -37,8 +38,8 @@ use Rattle.rules.specs.Code.Keeping.Nodes.{Laid, laid, no-room, own-node
 nodes-fewer : (ps : Pool) (gs : List Goal) (g : Goal) → length (goal-nodes ps gs) ≤ length (goal-nodes ps (gs ++ (g ∷ [])))
 nodes-fewer ps [] g = omega arith
 nodes-fewer ps (h ∷ hs) g =
-    let φ = joined ps (goal-formula ps h) hs in let ψ = goal-formula ps g in
-    let e : joined ps (goal-formula ps h) (hs ++ (g ∷ [])) ≡ conj φ ψ = joined-append ps (goal-formula ps h) hs (g ∷ []) in
+    let φ = conjoined ps (goal-formula ps h) hs in let ψ = goal-formula ps g in
+    let e : conjoined ps (goal-formula ps h) (hs ++ (g ∷ [])) ≡ conj φ ψ = conjoined-append ps (goal-formula ps h) hs (g ∷ []) in
     omega (arith, length-words φ 0, length-words (conj φ ψ) 0, ap (λ χ. length (words χ 0)) e)
 
 -- The goal g is complete, after its last term.

@@ -1,69 +1,25 @@
 -- Laws of what the code keeps of the goals: a rule past a limit stays past it, and the effects that change neither terms nor goals.
-use Prim.Native.Nat.{ℕ, zero, suc, _+_, _*_, _≤_, _<_}
+use Prim.Native.Nat.{ℕ, zero, suc, _<_}
 use native.Mathlib.Omega.{arith}
 use mathlib.Core.Path.{_≡_, refl, sym, ap, _∙_}
 use mathlib.Core.Bool.{Bool, true, false, cond, true≢false}
 use mathlib.Core.List.{List, [], _∷_, _++_, append-nil}
-use lib.ListN.{getD, set, replicate, getD-replicate}
+use lib.ListN.{getD, replicate, getD-replicate}
 use Rattle.calculus.specs.Sets.{union-of}
 use Rattle.calculus.specs.Sets.Laws.{in-nil, union-append}
-use Rattle.calculus.specs.Reflects.{Reflects, holds, fails}
-use Rattle.calculus.specs.Reflects.Laws.{reflects-ltb}
 use Rattle.rules.specs.declared.draft.Body.{Body}
 use Rattle.rules.specs.Grammar.{Term, Goal}
 use Rattle.rules.specs.Meaning.{max-terms}
-use Rattle.rules.specs.Code.Draft.{past, capped, capped-more, body-of, overrun, Small}
-use Rattle.rules.specs.Code.Draft.Laws.{capped-past}
-use Rattle.rules.specs.Code.Scan.{Goals, empty-body, by-effect, body-step}
+use Rattle.rules.specs.Code.Draft.Bounds.{small-overrun}
+use Rattle.rules.specs.Code.Draft.{capped, body-of, overrun, Small, empty-body}
+use Rattle.rules.specs.Code.Scan.{Goals, by-effect, body-step}
 use Rattle.rules.specs.Code.Keeping.{Account, account-of, idle, Fine, Stored, Keeps, KeepsAll}
-
--- ---- numbers past all limits
-
--- The code's number is no larger than the number read.
-pub capped-le : (n : ℕ) → capped n ≤ n
-capped-le n = go (reflects-ltb past n)
-  where
-    go : {b : Bool} → Reflects (past < n) b → cond b past n ≤ n
-    go (holds l) = omega arith
-    go (fails g) = omega arith
-
--- It is the number read where it is not past all limits.
-pub capped-below : (n : ℕ) → capped n < past → capped n ≡ n
-capped-below n = go (reflects-ltb past n)
-  where
-    go : {b : Bool} → Reflects (past < n) b → cond b past n < past → cond b past n ≡ n
-    go (holds l) h = absurd (omega arith)
-    go (fails g) h = refl
-
--- It is 0 only where the number read is.
-pub capped-positive : (n : ℕ) → ¬ (capped (suc n) ≡ 0)
-capped-positive n = go (reflects-ltb past (suc n))
-  where
-    go : {b : Bool} → Reflects (past < suc n) b → ¬ (cond b past (suc n) ≡ 0)
-    go (holds l) e = omega arith
-    go (fails g) e = omega arith
-
--- A digit more makes the same of the code's number as of the number read.
-pub capped-more-capped : (n d : ℕ) → capped-more (capped n) d ≡ capped (n * 10 + d)
-capped-more-capped n d = go (reflects-ltb past n)
-  where
-    go : {b : Bool} → Reflects (past < n) b → capped-more (cond b past n) d ≡ capped (n * 10 + d)
-    go (holds l) = capped-past (past * 10 + d) (omega arith) ∙ sym (capped-past (n * 10 + d) (omega arith))
-    go (fails g) = refl
 
 -- ---- lists
 
 -- The union over a list with one element more at its end.
 pub union-last : {A B : Type 0} (f : A → List B) (xs : List A) (x : A) → union-of f (xs ++ (x ∷ [])) ≡ union-of f xs ++ f x
 union-last f xs x = union-append f xs (x ∷ []) ∙ ap (λ ys. union-of f xs ++ ys) (append-nil (f x))
-
--- A property of every place and of what is written holds of every place after writing.
-pub set-each : (P : ℕ → Type 0) (xs : List ℕ) (k x : ℕ) → P x → ((i : ℕ) → P (getD xs i 0)) → (i : ℕ) → P (getD (set xs k x) i 0)
-set-each P [] k x p h i = h i
-set-each P (y ∷ ys) zero x p h zero = p
-set-each P (y ∷ ys) zero x p h (suc i) = h (suc i)
-set-each P (y ∷ ys) (suc k) x p h zero = h zero
-set-each P (y ∷ ys) (suc k) x p h (suc i) = set-each P ys k x p (λ j. h (suc j)) i
 
 -- A property of an element holds of every place of its copies.
 pub copies-each : {A : Type 0} (P : A → Type 0) (n : ℕ) (z : A) → P z → (i : ℕ) → P (getD (replicate n z) i z)
@@ -76,10 +32,6 @@ copies-each P (suc n) z p (suc i) = copies-each P n z p i
 -- Once a limit is passed, only the bounds are kept.
 pub past-limit : {a : Account} {b : Body} {cs ns : List ℕ} → Small b → b .over ≡ true → ¬ Fine a → Keeps a b cs ns
 past-limit s o n = record { bounds = s; judged = λ e. n; stored = λ e. absurd (true≢false (sym o ∙ e)) }
-
--- The bounds stay as they are past a limit.
-small-overrun : {b : Body} → Small b → Small (overrun b)
-small-overrun s = record { count-small = s .count-small; terms-small = s .terms-small; constants-small = s .constants-small; nodes-small = s .nodes-small }
 
 -- What comes next passes a limit.
 pub keeps-overrun : {a : Account} {b : Body} {cs ns : List ℕ} → Small b → ¬ Fine a → Keeps a (overrun b) cs ns

@@ -19,8 +19,8 @@ use Rattle.query.specs.Reading.{max-nodes}
 use Rattle.query.specs.Packing.{words}
 use Rattle.query.specs.Packing.Laws.{length-words, size-positive}
 use Rattle.rules.specs.Grammar.{Goal}
-use Rattle.rules.specs.Meaning.{goal-formula, joined}
-use Rattle.rules.specs.Meaning.Laws.{joined-append}
+use Rattle.rules.specs.Meaning.{goal-formula, conjoined}
+use Rattle.rules.specs.Meaning.Laws.{conjoined-append}
 use Rattle.rules.specs.Code.Draft.{Nodes, add-word, deny-goal, join-goal, onward, append-goal}
 use Rattle.rules.specs.Code.Keeping.{goal-nodes}
 
@@ -116,7 +116,7 @@ module _ (φ ψ : Fmla) (m : ℕ) (own : List ℕ) (e : size φ ≡ m) (f : word
 pub nodes-last : (ps : Pool) (gs : List Goal) (g : Goal) (w : ℕ) (d : Bool) → ((m : ℕ) → words (goal-formula ps g) m ≡ own-nodes w d m)
     → goal-nodes ps (gs ++ (g ∷ [])) ≡ goal-nodes ps gs ++ next-nodes w d (length (goal-nodes ps gs))
 nodes-last ps [] g w d h = h 0 ∙ sym (append-nil (own-nodes w d 0))
-nodes-last ps (h ∷ hs) g w d e = ap (λ χ. words χ 0) (joined-append ps (goal-formula ps h) hs (g ∷ [])) ∙ last (joined ps (goal-formula ps h) hs)
+nodes-last ps (h ∷ hs) g w d e = ap (λ χ. words χ 0) (conjoined-append ps (goal-formula ps h) hs (g ∷ [])) ∙ last (conjoined ps (goal-formula ps h) hs)
   where
     last : (φ : Fmla) → words (conj φ (goal-formula ps g)) 0 ≡ words φ 0 ++ next-nodes w d (length (words φ 0))
     last φ =

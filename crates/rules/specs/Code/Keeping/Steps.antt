@@ -13,18 +13,19 @@ use Rattle.calculus.specs.Reflects.{Reflects, holds, fails}
 use Rattle.calculus.specs.Reflects.Laws.{reflects-eqb, reflects-ltb, reflects-or, reflected}
 use Rattle.calculus.specs.Lists.Laws.{and-holds}
 use Rattle.rules.specs.declared.mode.Mode.{Mode}
-use Rattle.rules.specs.declared.mode.Mode.the-variants.{Out, Start, Named, ColumnDue, Column, Closed, Colon, GoalDue, DenialN, DenialNo, DenialNot, Denial, Relation, TermDue, Ended, Subject, Spaced, Equals, OtherDue, Other, Done, Term as TermMode}
+use Rattle.rules.specs.declared.mode.Mode.the-variants.{Out, Start, Letter, ColumnDue, Column, Closed, Colon, GoalDue, DenialN, DenialNo, DenialNot, Denial, Relation, TermDue, Ended, Subject, Spaced, Equals, OtherDue, Other, Done, Term as TermMode}
 use Rattle.rules.specs.declared.draft.Head.{Head}
 use Rattle.rules.specs.declared.draft.Body.{Body}
 use Rattle.rules.specs.Grammar.{Term, Goal, equal}
+use Rattle.rules.specs.Code.Draft.Laws.{capped-positive, capped-more-capped}
 use Rattle.rules.specs.Code.Modes.{picked, next-mode, suits}
 use Rattle.rules.specs.Code.Draft.{capped, capped-more, put-column}
 use Rattle.rules.specs.Code.Scan.{Draft, draft-of, start-draft, moved-to, digit-step, Goals, body-step, turned, turn-step, draft-step}
-use Rattle.rules.specs.Code.Automaton.{State, start, named, column-due, column, closed, colon, goal-due, denial-n, denial-no, denial-not, denial, relation, term-due, term, ended, subject, spaced, equals, other-due, other, done, Move, _to_, digit-moves, after, term-of, moves, chosen, step}
+use Rattle.rules.specs.Code.Automaton.{State, start, letter, column-due, column, closed, colon, goal-due, denial-n, denial-no, denial-not, denial, relation, term-due, term, ended, subject, spaced, equals, other-due, other, done, Move, _to_, digit-moves, after, term-of, moves, chosen, step}
 use Rattle.rules.specs.Code.Automaton.Laws.{NoDigit, chosen-passed, chosen-first, chosen-more, after-column, after-term, after-goal}
 use Rattle.rules.specs.Code.Keeping.{HeadKeeps, Account, account-of, idle, Keeps, KeepsAll, mode-of, numeral-of, columns-of, account, Counts, not-begun, counts, Kept, KeptAfter}
 use Rattle.rules.specs.Code.Keeping.Columns.{head-starts, head-column}
-use Rattle.rules.specs.Code.Keeping.Laws.{capped-positive, capped-more-capped, keeps-start, keeps-nothing, keeps-denied, keeps-subject, keeps-named}
+use Rattle.rules.specs.Code.Keeping.Laws.{keeps-start, keeps-nothing, keeps-denied, keeps-subject, keeps-named}
 use Rattle.rules.specs.Code.Keeping.Terms.{keeps-term}
 use Rattle.rules.specs.Code.Keeping.Complete.{all-and-last, keeps-relation, keeps-equality}
 
@@ -168,8 +169,8 @@ module _ (b : ℕ) (nd : NoDigit b) (h : Head) (body : Body) (cs ns : List ℕ) 
 
     -- A byte that is no digit.
     kept-turn : (s : State) → Counts (numeral-of s) n st → HeadKeeps (columns-of s) h → Keeps (account s) body cs ns → KeptBy (step s b) (turn (mode-of s) n st h body cs ns b)
-    kept-turn start c hk k = kept-chosen b h (body-step 0 body n cs ns) (moves start) ((λ q. quiet (idle []) k named refl hk refl), tt)
-    kept-turn named c hk k = kept-chosen b h (body-step 0 body n cs ns) (moves named) ((λ q. quiet (idle []) k (column-due []) refl hk refl), ((λ q. quiet (idle []) k (colon []) refl hk refl), tt))
+    kept-turn start c hk k = kept-chosen b h (body-step 0 body n cs ns) (moves start) ((λ q. quiet (idle []) k letter refl hk refl), tt)
+    kept-turn letter c hk k = kept-chosen b h (body-step 0 body n cs ns) (moves letter) ((λ q. quiet (idle []) k (column-due []) refl hk refl), ((λ q. quiet (idle []) k (colon []) refl hk refl), tt))
     kept-turn (column-due xs) c hk k = kept-chosen b h (body-step 0 body n cs ns) (moves (column-due xs)) ((λ q. quiet (idle []) k (column xs none) refl hk refl), tt)
     kept-turn (column xs o) c hk k = kept-reading (column xs) (after-column xs) Column refl (column-read xs hk k) o n st c
     kept-turn (closed xs) c hk k = kept-chosen b h (body-step 0 body n cs ns) (moves (closed xs)) ((λ q. quiet (idle []) k (colon xs) refl hk refl), tt)
@@ -267,7 +268,7 @@ module _ (b : ℕ) (low : 48 ≤ b) (high : b ≤ 57) where
       -- A digit.
       kept-digits : (s : State) → Counts (numeral-of s) n st → HeadKeeps (columns-of s) h → Keeps (account s) body cs ns → KeptBy (step s b) (digit (mode-of s) n st)
       kept-digits start c hk k = kept-no-digit (moves start) Start n st tt refl
-      kept-digits named c hk k = kept-no-digit (moves named) Named n st tt refl
+      kept-digits letter c hk k = kept-no-digit (moves letter) Letter n st tt refl
       kept-digits (column-due xs) c hk k = kept-no-digit (moves (column-due xs)) ColumnDue n st tt refl
       kept-digits (column xs o) c hk k = kept-further (column xs) (after-column xs) Column (λ x. refl) (λ x. refl) (λ x. hk) (λ x. k) (λ x. tt) o n st c
       kept-digits (closed xs) c hk k = kept-no-digit (moves (closed xs)) Closed n st tt refl

@@ -22,11 +22,13 @@ use Rattle.rules.specs.declared.draft.Body.{Body}
 use Rattle.rules.specs.Grammar.{several, Term, variable, value, Goal}
 use Rattle.rules.specs.Meaning.{term-variables, term-values, variables-in, values-in, added, pooled, place-in, max-terms, max-number, max-value}
 use Rattle.rules.specs.Meaning.Constants.{pooled-append, added-known, added-new, pooled-extends, in-pooled, place-below, place-missing, term-stable, matrix-stable}
+use Rattle.rules.specs.Code.Draft.Bounds.{set-each, small-unnamed}
+use Rattle.rules.specs.Code.Draft.Laws.{capped-le, capped-below}
 use Rattle.rules.specs.Code.Automaton.{term-of}
 use Rattle.rules.specs.Code.Draft.{past, capped, body-of, overrun, Small, with-term, put-variable, put-place, put-constant, unnamed}
 use Rattle.rules.specs.Code.Scan.{term-step, body-step}
 use Rattle.rules.specs.Code.Keeping.{Account, account-of, values-of, variables-of, pool, goal-nodes, code-of, Fine, Stored, Keeps, KeepsAll}
-use Rattle.rules.specs.Code.Keeping.Laws.{capped-le, capped-below, union-last, set-each, keeps-overrun, within-limits, keeps-guarded}
+use Rattle.rules.specs.Code.Keeping.Laws.{union-last, keeps-overrun, within-limits, keeps-guarded}
 
 -- ---- the place of a new value
 
@@ -179,9 +181,6 @@ module _ (gs : List Goal) (d v : Bool) (r : ℕ) (ts : List Term) (t : Term) whe
           (stored-later w code seen k ds named e l m n p)
 
 -- ---- the number is the next term
-
-small-unnamed : {b : Body} → Small b → Small (unnamed b)
-small-unnamed s = record { count-small = s .count-small; terms-small = s .terms-small; constants-small = s .constants-small; nodes-small = s .nodes-small }
 
 -- What follows an X is a variable.
 module _ (gs : List Goal) (d : Bool) (r : ℕ) (ts : List Term) (m : ℕ) (b : Body) (cs ns : List ℕ) (small : Small b) (o : b .over ≡ false)

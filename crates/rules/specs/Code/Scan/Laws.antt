@@ -10,11 +10,11 @@ use lib.Dec.{eqb, ltb}
 use borrow.Author.Tests.{lt-ltb, le-ltb, ne-eqb}
 use Rattle.rules.specs.declared.mode.Mode.{Mode}
 use Rattle.rules.specs.declared.mode.Mode.the-variants.{Out}
-use Rattle.rules.specs.declared.scan.Place.{Place}
+use Rattle.rules.specs.declared.scan.Reader.{Reader}
 use Rattle.rules.specs.declared.draft.Head.{Head}
 use Rattle.rules.specs.Code.Modes.{next-mode, effect-of, suits, stage-of}
 use Rattle.rules.specs.Code.Draft.{put-column, put-term, put-relation, put-equality}
-use Rattle.rules.specs.Code.Scan.{Draft, Goals, relation-step, equality-step, by-effect, body-step, moved-to, turned, turn-by, turn-step, digit-step, draft-step, draft-of, place-of, digit-place, turn-place, place-step, effect-at, draft-at, turn-mode}
+use Rattle.rules.specs.Code.Scan.{Draft, Goals, relation-step, equality-step, by-effect, body-step, moved-to, turned, turn-by, turn-step, digit-step, draft-step, draft-of, reader-of, digit-reader, turn-reader, reader-step, effect-at, draft-at, turn-mode}
 
 module _ (e : ℕ) (b : Body) (n : ℕ) (cs ns : List ℕ) where
   -- Any other number does nothing.
@@ -52,36 +52,36 @@ module _ (e : ℕ) (b : Body) (n : ℕ) (cs ns : List ℕ) where
     step-equality k t r ms f = ap (λ g. (g .0, (ds, g .1))) f ∙ ap (λ g. equality-step (g .0, (g .1, ns))) t ∙ sym (step-within 7 o k)
 
 -- A byte in two parts: where the reader stands then, and what becomes of the head and the goals.
-module _ (p : Place) (h : Head) (b : Body) (c : ℕ) (cs ns : List ℕ) where
+module _ (p : Reader) (h : Head) (b : Body) (c : ℕ) (cs ns : List ℕ) where
   -- Both go to one mode.
-  pub mode-stepped : draft-step (draft-at p h b) c cs ns .0 .mode ≡ place-step p c .mode
+  pub mode-stepped : draft-step (draft-at p h b) c cs ns .0 .mode ≡ reader-step p c .mode
   mode-stepped = go (ltb c 48 || ltb 57 c) (suits (effect-of (p .mode) c) (p .started)) (eqb (effect-of (p .mode) c) 1)
     where
       go : (t u v : Bool)
           → (cond {A = Draft × (List ℕ × List ℕ)} t (cond u (cond v (moved-to (next-mode (p .mode) c) (put-column h (p .number)) b, (cs, ns)) (turned (next-mode (p .mode) c) h (body-step (effect-of (p .mode) c) b (p .number) cs ns))) (moved-to Out h b, (cs, ns))) (digit-step (draft-at p h b) c, (cs, ns))) .0 .mode
-          ≡ (cond {A = Place} t (place-of (cond u (next-mode (p .mode) c) Out) 0 false) (digit-place p c)) .mode
+          ≡ (cond {A = Reader} t (reader-of (cond u (next-mode (p .mode) c) Out) 0 false) (digit-reader p c)) .mode
       go true true true = refl
       go true true false = refl
       go true false v = refl
       go false u v = refl
 
   -- The same step, where the byte is a digit, or by the effect of one that isn't.
-  split : (e : ℕ) → effect-at (p .mode) c ≡ e → (r : Draft × (List ℕ × List ℕ)) → (place-step p c ≡ digit-place p c → 0 ≡ e → r ≡ (digit-step (draft-at p h b) c, (cs, ns)))
-      → (place-step p c ≡ turn-place p c → effect-of (p .mode) c ≡ e → r ≡ turn-step (draft-at p h b) c cs ns) → r ≡ draft-step (draft-at p h b) c cs ns
+  split : (e : ℕ) → effect-at (p .mode) c ≡ e → (r : Draft × (List ℕ × List ℕ)) → (reader-step p c ≡ digit-reader p c → 0 ≡ e → r ≡ (digit-step (draft-at p h b) c, (cs, ns)))
+      → (reader-step p c ≡ turn-reader p c → effect-of (p .mode) c ≡ e → r ≡ turn-step (draft-at p h b) c cs ns) → r ≡ draft-step (draft-at p h b) c cs ns
   split e k r f g = go (ltb c 48 || ltb 57 c) refl
     where
       go : (t : Bool) → (ltb c 48 || ltb 57 c) ≡ t → r ≡ draft-step (draft-at p h b) c cs ns
       go true q =
-          g (ap (λ t. cond t (turn-place p c) (digit-place p c)) q) (sym (ap (λ t. cond t (effect-of (p .mode) c) 0) q) ∙ k)
+          g (ap (λ t. cond t (turn-reader p c) (digit-reader p c)) q) (sym (ap (λ t. cond t (effect-of (p .mode) c) 0) q) ∙ k)
           ∙ sym (ap (λ t. cond t (turn-step (draft-at p h b) c cs ns) (digit-step (draft-at p h b) c, (cs, ns))) q)
       go false q =
-          f (ap (λ t. cond t (turn-place p c) (digit-place p c)) q) (sym (ap (λ t. cond t (effect-of (p .mode) c) 0) q) ∙ k)
+          f (ap (λ t. cond t (turn-reader p c) (digit-reader p c)) q) (sym (ap (λ t. cond t (effect-of (p .mode) c) 0) q) ∙ k)
           ∙ sym (ap (λ t. cond t (turn-step (draft-at p h b) c cs ns) (digit-step (draft-at p h b) c, (cs, ns))) q)
 
   -- Nothing happens to the head and the goals.
-  pub stepped-nothing : effect-at (p .mode) c ≡ 0 → _≡_ {A = Draft × (List ℕ × List ℕ)} (draft-at (place-step p c) h b, (cs, ns)) (draft-step (draft-at p h b) c cs ns)
+  pub stepped-nothing : effect-at (p .mode) c ≡ 0 → _≡_ {A = Draft × (List ℕ × List ℕ)} (draft-at (reader-step p c) h b, (cs, ns)) (draft-step (draft-at p h b) c cs ns)
   stepped-nothing k =
-      split 0 k (draft-at (place-step p c) h b, (cs, ns))
+      split 0 k (draft-at (reader-step p c) h b, (cs, ns))
       (λ q z. ap (λ w. (draft-at w h b, (cs, ns))) q)
       (λ q z.
       ap (λ w. (draft-at w h b, (cs, ns))) q
@@ -90,7 +90,7 @@ module _ (p : Place) (h : Head) (b : Body) (c : ℕ) (cs ns : List ℕ) where
       ∙ sym (ap (λ e. turn-by e (next-mode (p .mode) c) (draft-at p h b) cs ns) z))
 
   -- Where the reader goes on, the byte suits what it does.
-  suited : (e : ℕ) → place-step p c ≡ turn-place p c → effect-of (p .mode) c ≡ e → stage-of (place-step p c .mode) ≢ 0 → suits e (p .started) ≡ true
+  suited : (e : ℕ) → reader-step p c ≡ turn-reader p c → effect-of (p .mode) c ≡ e → stage-of (reader-step p c .mode) ≢ 0 → suits e (p .started) ≡ true
   suited e q z alive = go (suits e (p .started)) refl
     where
       go : (t : Bool) → suits e (p .started) ≡ t → suits e (p .started) ≡ true
@@ -99,15 +99,15 @@ module _ (p : Place) (h : Head) (b : Body) (c : ℕ) (cs ns : List ℕ) where
           absurd (alive (ap (λ w. stage-of (w .mode)) q ∙ (λ i. stage-of (cond (suits (z i) (p .started)) (next-mode (p .mode) c) Out)) ∙ ap (λ t. stage-of (cond t (next-mode (p .mode) c) Out)) f))
 
   -- The place after it.
-  goes-to : (e : ℕ) → place-step p c ≡ turn-place p c → effect-of (p .mode) c ≡ e → stage-of (place-step p c .mode) ≢ 0 → place-step p c ≡ place-of (next-mode (p .mode) c) 0 false
+  goes-to : (e : ℕ) → reader-step p c ≡ turn-reader p c → effect-of (p .mode) c ≡ e → stage-of (reader-step p c .mode) ≢ 0 → reader-step p c ≡ reader-of (next-mode (p .mode) c) 0 false
   goes-to e q z alive =
-      q ∙ (λ i. place-of (cond (suits (z i) (p .started)) (next-mode (p .mode) c) Out) 0 false) ∙ ap (λ t. place-of (cond t (next-mode (p .mode) c) Out) 0 false) (suited e q z alive)
+      q ∙ (λ i. reader-of (cond (suits (z i) (p .started)) (next-mode (p .mode) c) Out) 0 false) ∙ ap (λ t. reader-of (cond t (next-mode (p .mode) c) Out) 0 false) (suited e q z alive)
 
   -- The number is a variable of the head.
-  pub stepped-column : effect-at (p .mode) c ≡ 1 → stage-of (place-step p c .mode) ≢ 0 → (g : Head) → g ≡ put-column h (p .number)
-      → _≡_ {A = Draft × (List ℕ × List ℕ)} (draft-at (place-step p c) g b, (cs, ns)) (draft-step (draft-at p h b) c cs ns)
+  pub stepped-column : effect-at (p .mode) c ≡ 1 → stage-of (reader-step p c .mode) ≢ 0 → (g : Head) → g ≡ put-column h (p .number)
+      → _≡_ {A = Draft × (List ℕ × List ℕ)} (draft-at (reader-step p c) g b, (cs, ns)) (draft-step (draft-at p h b) c cs ns)
   stepped-column k alive g f =
-      split 1 k (draft-at (place-step p c) g b, (cs, ns))
+      split 1 k (draft-at (reader-step p c) g b, (cs, ns))
       (λ q z. absurd (omega (arith, z)))
       (λ q z.
       (λ i. (draft-at (goes-to 1 q z alive i) (f i) b, (cs, ns)))
@@ -115,10 +115,10 @@ module _ (p : Place) (h : Head) (b : Body) (c : ℕ) (cs ns : List ℕ) where
       ∙ sym (ap (λ e. turn-by e (next-mode (p .mode) c) (draft-at p h b) cs ns) z))
 
   -- The byte is for the goals.
-  pub stepped-goals : (e : ℕ) → effect-at (p .mode) c ≡ e → e ≢ 1 → e ≢ 0 → stage-of (place-step p c .mode) ≢ 0 → (a : Body) (ds ms : List ℕ) → _≡_ {A = Goals} (a, (ds, ms)) (body-step e b (p .number) cs ns)
-      → _≡_ {A = Draft × (List ℕ × List ℕ)} (draft-at (place-step p c) h a, (ds, ms)) (draft-step (draft-at p h b) c cs ns)
+  pub stepped-goals : (e : ℕ) → effect-at (p .mode) c ≡ e → e ≢ 1 → e ≢ 0 → stage-of (reader-step p c .mode) ≢ 0 → (a : Body) (ds ms : List ℕ) → _≡_ {A = Goals} (a, (ds, ms)) (body-step e b (p .number) cs ns)
+      → _≡_ {A = Draft × (List ℕ × List ℕ)} (draft-at (reader-step p c) h a, (ds, ms)) (draft-step (draft-at p h b) c cs ns)
   stepped-goals e k one none alive a ds ms f =
-      split e k (draft-at (place-step p c) h a, (ds, ms))
+      split e k (draft-at (reader-step p c) h a, (ds, ms))
       (λ q z. absurd (none (sym z)))
       (λ q z.
       (λ i. (draft-at (goes-to e q z alive i) h a, (ds, ms)))
