@@ -6,8 +6,7 @@ ghost use mathlib.Core.List.{[], _∷_};
 ghost use lib.Dec.{eqb};
 ghost use Rattle.rules.specs.Code.Modes.{picked, next-mode, effect-of, suits, stage-of};
 
-// What a byte that is no digit does, beside the step to the next mode.
-// Nothing.
+// What a byte that is no digit does, beside the step to the next mode: nothing, or one of the following.
 pub const NOTHING: u32 = 0;
 
 // The number before it is a variable of the head.
@@ -22,13 +21,13 @@ pub const SUBJECT: u32 = 3;
 // An X stands before the number that follows.
 pub const NAMED: u32 = 4;
 
-// The number before it is a term of a relation,
+// The number before it is a term of a relation that has more.
 pub const TERM: u32 = 5;
 
-// .. its last term,
+// The number before it is the last term of a relation.
 pub const RELATION: u32 = 6;
 
-// .. or the term of an equality.
+// The number before it is the term of an equality.
 pub const EQUALITY: u32 = 7;
 
 // Whether a rule can go on, and whether it has ended.

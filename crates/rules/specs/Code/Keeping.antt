@@ -17,8 +17,8 @@ use Rattle.rules.specs.declared.mode.Mode.{Mode}
 use Rattle.rules.specs.declared.mode.Mode.the-variants.{Out, Start, Letter, ColumnDue, Column, Closed, Colon, GoalDue, DenialN, DenialNo, DenialNot, Denial, Relation, TermDue, Ended, Subject, Spaced, Equals, OtherDue, Other, Done, Term as TermMode}
 use Rattle.rules.specs.declared.draft.Head.{Head}
 use Rattle.rules.specs.declared.draft.Body.{Body}
-use Rattle.rules.specs.Grammar.{several, Term, Goal, rule, all}
-use Rattle.rules.specs.Meaning.{term-variables, term-values, relations-in, variables-in, values-in, pooled, term-in, matrix, max-terms, max-number, max-value, crowded}
+use Rattle.rules.specs.Grammar.{several, Term, Goal}
+use Rattle.rules.specs.Meaning.{head, goals, term-variables, term-values, relations-in, variables-in, values-in, pooled, term-in, matrix, max-terms, max-number, max-value, crowded}
 use Rattle.rules.specs.Code.Automaton.{State, start, letter, column-due, column, closed, colon, goal-due, denial-n, denial-no, denial-not, denial, relation, term-due, term, ended, subject, spaced, equals, other-due, other, done}
 use Rattle.rules.specs.Code.Draft.{capped, Small}
 use Rattle.rules.specs.Code.Scan.{Draft, Goals}
@@ -112,105 +112,56 @@ pub record Keeps (a : Account) (b : Body) (cs ns : List ℕ) : Type 0 where
   pub judged : b .over ≡ true → ¬ Fine a
   pub stored : b .over ≡ false → Fine a × Stored a b cs ns
 
--- The same of what a step gives.
+-- Goals, constants and nodes, as a step gives them, keep the account.
 abbrev pub KeepsAll : Account → Goals → Type 0
 KeepsAll a g = Keeps a (g .0) (g .1 .0) (g .1 .1)
 
 -- ---- the states
 
+-- What is held of a state: its mode, the digits read of a number, the head's variables, and the goals.
+pub record Held : Type 0 where
+  pub mode : Mode
+  pub numeral : Option ℕ
+  pub columns : List ℕ
+  pub account : Account
+
+abbrev pub held-as : Mode → Option ℕ → List ℕ → Account → Held
+held-as m n xs a = record { mode = m; numeral = n; columns = xs; account = a }
+
+abbrev pub held : State → Held
+held start = held-as Start none [] (idle [])
+held letter = held-as Letter none [] (idle [])
+held (column-due xs) = held-as ColumnDue none xs (idle [])
+held (column xs n) = held-as Column n xs (idle [])
+held (closed xs) = held-as Closed none xs (idle [])
+held (colon xs) = held-as Colon none xs (idle [])
+held (goal-due xs gs) = held-as GoalDue none xs (idle gs)
+held (denial-n xs gs) = held-as DenialN none xs (idle gs)
+held (denial-no xs gs) = held-as DenialNo none xs (idle gs)
+held (denial-not xs gs) = held-as DenialNot none xs (idle gs)
+held (denial xs gs) = held-as Denial none xs (idle gs)
+held (relation xs gs d n) = held-as Relation n xs (account-of gs d false 0 [])
+held (term-due xs gs d r ts) = held-as TermDue none xs (account-of gs d false r ts)
+held (term xs gs d r ts v n) = held-as TermMode n xs (account-of gs d v r ts)
+held (ended xs gs g) = held-as Ended none xs (idle (gs ++ (g ∷ [])))
+held (subject xs gs n) = held-as Subject n xs (idle gs)
+held (spaced xs gs x) = held-as Spaced none xs (account-of gs false false x [])
+held (equals xs gs x) = held-as Equals none xs (account-of gs false false x [])
+held (other-due xs gs x) = held-as OtherDue none xs (account-of gs false false x [])
+held (other xs gs x v n) = held-as Other n xs (account-of gs false v x [])
+held (done R) = held-as Done none (head R) (idle (goals R))
+
 abbrev pub mode-of : State → Mode
-mode-of start = Start
-mode-of letter = Letter
-mode-of (column-due xs) = ColumnDue
-mode-of (column xs n) = Column
-mode-of (closed xs) = Closed
-mode-of (colon xs) = Colon
-mode-of (goal-due xs gs) = GoalDue
-mode-of (denial-n xs gs) = DenialN
-mode-of (denial-no xs gs) = DenialNo
-mode-of (denial-not xs gs) = DenialNot
-mode-of (denial xs gs) = Denial
-mode-of (relation xs gs d n) = Relation
-mode-of (term-due xs gs d r ts) = TermDue
-mode-of (term xs gs d r ts v n) = TermMode
-mode-of (ended xs gs g) = Ended
-mode-of (subject xs gs n) = Subject
-mode-of (spaced xs gs x) = Spaced
-mode-of (equals xs gs x) = Equals
-mode-of (other-due xs gs x) = OtherDue
-mode-of (other xs gs x v n) = Other
-mode-of (done R) = Done
+mode-of s = held s .mode
 
--- The digits read of a number.
 abbrev pub numeral-of : State → Option ℕ
-numeral-of start = none
-numeral-of letter = none
-numeral-of (column-due xs) = none
-numeral-of (column xs n) = n
-numeral-of (closed xs) = none
-numeral-of (colon xs) = none
-numeral-of (goal-due xs gs) = none
-numeral-of (denial-n xs gs) = none
-numeral-of (denial-no xs gs) = none
-numeral-of (denial-not xs gs) = none
-numeral-of (denial xs gs) = none
-numeral-of (relation xs gs d n) = n
-numeral-of (term-due xs gs d r ts) = none
-numeral-of (term xs gs d r ts v n) = n
-numeral-of (ended xs gs g) = none
-numeral-of (subject xs gs n) = n
-numeral-of (spaced xs gs x) = none
-numeral-of (equals xs gs x) = none
-numeral-of (other-due xs gs x) = none
-numeral-of (other xs gs x v n) = n
-numeral-of (done R) = none
+numeral-of s = held s .numeral
 
--- The head's variables.
 abbrev pub columns-of : State → List ℕ
-columns-of start = []
-columns-of letter = []
-columns-of (column-due xs) = xs
-columns-of (column xs n) = xs
-columns-of (closed xs) = xs
-columns-of (colon xs) = xs
-columns-of (goal-due xs gs) = xs
-columns-of (denial-n xs gs) = xs
-columns-of (denial-no xs gs) = xs
-columns-of (denial-not xs gs) = xs
-columns-of (denial xs gs) = xs
-columns-of (relation xs gs d n) = xs
-columns-of (term-due xs gs d r ts) = xs
-columns-of (term xs gs d r ts v n) = xs
-columns-of (ended xs gs g) = xs
-columns-of (subject xs gs n) = xs
-columns-of (spaced xs gs x) = xs
-columns-of (equals xs gs x) = xs
-columns-of (other-due xs gs x) = xs
-columns-of (other xs gs x v n) = xs
-columns-of (done (rule xs gs)) = xs
+columns-of s = held s .columns
 
 abbrev pub account : State → Account
-account start = idle []
-account letter = idle []
-account (column-due xs) = idle []
-account (column xs n) = idle []
-account (closed xs) = idle []
-account (colon xs) = idle []
-account (goal-due xs gs) = idle gs
-account (denial-n xs gs) = idle gs
-account (denial-no xs gs) = idle gs
-account (denial-not xs gs) = idle gs
-account (denial xs gs) = idle gs
-account (relation xs gs d n) = account-of gs d false 0 []
-account (term-due xs gs d r ts) = account-of gs d false r ts
-account (term xs gs d r ts v n) = account-of gs d v r ts
-account (ended xs gs g) = idle (gs ++ (g ∷ []))
-account (subject xs gs n) = idle gs
-account (spaced xs gs x) = account-of gs false false x []
-account (equals xs gs x) = account-of gs false false x []
-account (other-due xs gs x) = account-of gs false false x []
-account (other xs gs x v n) = account-of gs false v x []
-account (done (rule xs gs)) = idle (all gs)
+account s = held s .account
 
 -- The number being read, as the code has it.
 pub data Counts : Option ℕ → ℕ → Bool → Type 0 where

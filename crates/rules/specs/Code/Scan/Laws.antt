@@ -1,4 +1,4 @@
--- Laws of a byte's step: the effects on the goals, by number.
+-- Laws of a byte's step: the effects on the goals, by number; and the step in two parts, where the reader stands and what becomes of head and goals.
 use Prim.Native.Nat.{ℕ, zero, suc, _≤_, _<_}
 use mathlib.Core.Path.{_≡_, refl, sym, ap, _∙_}
 use mathlib.Core.Logic.{_≢_}
