@@ -1,5 +1,5 @@
 // The stack that an answer, a put and a removal use, on queries as deep as 64 nodes allow: the calls run on a painted stack, and what is no longer painted was
-// used. With HOST defined, the stack that the host's two entries use on the same queries.
+// used. With HOST defined, the stack that the host's entries use on the same queries and on a long rule.
 //
 // Usage: stack. It fails where more than the bounds of docs/ARCHITECTURE.md is used.
 #define _GNU_SOURCE
@@ -23,7 +23,7 @@ extern uint64_t palmrummy_change(const uint8_t *widths, const uint8_t *relations
                                  size_t left_room);
 #endif
 
-enum { NODES = 64, STACK = 1 << 20, BOUND = 228 * 1024, CHANGE_BOUND = 340 * 1024, HOST_BOUND = 240 * 1024, ROOM = 4096, RECORDS = 2, NUMBERS = 2048 };
+enum { NODES = 64, STACK = 1 << 20, BOUND = 228 * 1024, CHANGE_BOUND = 340 * 1024, HOST_BOUND = 240 * 1024, RULE_BOUND = 16 * 1024, ROOM = 4096, RECORDS = 2, NUMBERS = 2048 };
 
 static uint8_t widths[16] = {0, 2}, relations[256] = {1, 1};
 static uint32_t values[1024] = {0, 7, 0, 0, 7, 0, 0, 0};
@@ -94,6 +94,18 @@ static size_t packed(void) {
 static void *answer(void *unused) {
     (void)unused;
     refused += palmrummy_answer_is_refused(palmrummy_answer(input, packed(), answers, sizeof answers));
+    return NULL;
+}
+
+// A rule of 63 nodes and 16 constants, with a head of four variables.
+static void *pack(void *unused) {
+    static const char text[] = "q(X0,X1,X2,X3):-r1(X0,0,1,2),r2(X1,3,4,5),r3(X2,6,7,8),r4(X3,9,10,11),r5(X4,12,13,14),r6(X5,X6,X7,15),"
+                               "r7(X8,X9,X10,X11),r8(X12,X13,X14,X15),not r9(X0),not r10(X1),not r11(X2),not r12(X3),X0 = X1,X2 = 0,r0(X0),r0(X1),r0(X2),r0(X3),"
+                               "r0(X4),r0(X5),r0(X6),r0(X7),r0(X8),r0(X9).";
+    static uint8_t query[PALMRUMMY_QUERY_MOST];
+    static uint64_t place;
+    (void)unused;
+    refused += palmrummy_rule_is_refused(palmrummy_rule((const uint8_t *)text, sizeof text - 1, query, &place));
     return NULL;
 }
 
@@ -170,5 +182,10 @@ int main(void) {
 #endif
     printf("stack: at most %zu bytes used by an answer (bound %zu), %zu by %s (bound %zu), with those of a thread's start; %zu refused\n", most, bound, most_too, too,
            bound_too, refused);
+#ifdef HOST
+    size_t rule = used(pack);
+    printf("stack: %zu bytes used by a rule (bound %d); %zu refused\n", rule, RULE_BOUND, refused);
+    if (rule > RULE_BOUND) return 1;
+#endif
     return most > bound || most_too > bound_too || refused > 0;
 }
