@@ -1,5 +1,6 @@
 // What has been read of a rule, beside its constants and nodes, which stand in two lent arrays. A number may have any number of digits, and a rule any number
 // of terms and goals: a number stops at the first one past all limits, and once a limit is passed (`over`) it no longer matters what is kept.
+// For `pack` alone (the module is not public): functions ask for the bounds of their indices, which `pack` keeps (`Small`).
 use query::CONSTANTS;
 use query::NODES;
 use query::node;

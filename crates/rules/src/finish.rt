@@ -1,4 +1,5 @@
-// From what was read of a rule to its packed query: the quantifiers, and the bytes.
+// From what was read of a rule to its packed query: the quantifiers, and the bytes. For `pack` alone (the module is not public): what is asked for is so of
+// every rule that has been read whole (`reached-ready`).
 use crate::PACKED;
 use crate::Packing;
 use crate::draft;

@@ -1,4 +1,5 @@
-// The reader of a rule, byte by byte. It goes on for text of any length: what is kept is of fixed size.
+// The reader of a rule, byte by byte. It goes on for text of any length: what is kept is of fixed size. For `pack` alone (the module is not
+// public), which asks it for digits where it has tested the byte, and for goals within the bounds that it keeps.
 use crate::draft;
 use crate::draft::Body;
 use crate::mode;
