@@ -934,6 +934,25 @@ def small_answer_cases(size):
                 agree(f"s{size}.{i}.{k}, with more fresh values", answers.answer(*query, records), answers.answer(*query, records, more=2))
 
 
+# ---- each node by itself
+
+def ungenerating(n):
+    """So many nodes, from 2 on, in which x is free and not generated: under an odd number of nots 1(x), or exists y 0(x,y)."""
+    return chain(n) if n % 2 == 0 else [R0, some(1, 0)] + [no(i) for i in range(1, n - 1)]
+
+
+def node_cases():
+    """Each node that can be as the only generator of x, and as the only exists reported."""
+    generated = {0: ([R1], [[0]]), 1: ([record(1, 1), R1, both(0, 1)], [[1], [0]])}
+    generated |= {n: (ungenerating(n) + [R1, both(n - 1, n)], [[n]]) for n in range(2, 63)}
+    for n, (nodes, generators) in generated.items():
+        verdict_case(f"node {n} generates", words_bytes(nodes), expect=reports(generators, [], [], True))
+    reported = {1: ([equality(0, 1), some(1, 0)], [[]], [0])}
+    reported |= {n: (ungenerating(n) + [some(0, n - 1)], [], []) for n in range(2, 64)}
+    for n, (nodes, generators, ungenerated) in reported.items():
+        verdict_case(f"node {n} reported", words_bytes(nodes), expect=reports(generators, ungenerated, [n], False))
+
+
 # ---- those that are stored
 
 ROOM = 65000  # bytes of cases that the program takes at once

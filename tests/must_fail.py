@@ -9,9 +9,9 @@ An edit file holds one or more wrong programs. Each starts with its name and wha
     old: ..
     new: ..
 
-One check tries all wrong programs of a file. So each of several in one file changes the body of a function of its own, and the facts named are of this function's
-proof: a function is proved from its body and the contracts of what it calls, so such a fact fails by this change alone. A definition moves everything above it,
-and a change of one has a file to itself.
+One check tries all wrong programs of a file. So each of several in one file changes the body of a function of its own, or a private table that this function alone
+names, and the facts named are of this function's proof: a function is proved from its body and the contracts of what it calls, so such a fact fails by this change
+alone. A definition moves everything above it, and a change of one has a file to itself.
 
 Fails where
 - an edit file isn't of this form, or two of its programs change one function;
@@ -67,15 +67,20 @@ class Program:
 
 
 def function_at(crate, file, text):
-    """The function of a source file that has the text, as the end of its proof's path: module/function."""
+    """The function of a source file that has the text, as the end of its proof's path: module/function. A private table is of the function that alone names it."""
     if not file.startswith("src/"):
         return None
-    before = (crate / file).read_text().split(text)[0]
-    names = re.findall(r"^(?:pub )?(?:extern \"C\" )?fn (\w+)|^(\})$", before, re.M)
-    if not names or names[-1][1]:
+    source = (crate / file).read_text()
+    functions = [*re.finditer(r"^(?:pub )?(?:extern \"C\" )?fn (\w+).*?^\}$", source, re.M | re.S)]
+    at = source.find(text)
+    around = [f[1] for f in functions if f.start() < at < f.end()]
+    for table in re.finditer(r"^const (\w+)[^\n]*\[\n.*?^\];$", source, re.M | re.S):
+        if table.start() < at < table.end():
+            around = [f[1] for f in functions if re.search(rf"\b{table[1]}\b", f[0])]
+    if len(around) != 1:
         return None
     module = pathlib.Path(file).stem
-    return names[-1][0] if module in ("lib", "main") else f"{module}/{names[-1][0]}"
+    return around[0] if module in ("lib", "main") else f"{module}/{around[0]}"
 
 
 def is_proof_of(function, fact, file):

@@ -1,21 +1,39 @@
--- `verdict::bits::node_bit` meets its contract: the set of n alone is one bit.
-use native.Mathlib.Omega.{arith}
+-- `verdict::bits::node_bit` meets its contract. The rule of its table is proved once, over the whole table: a test that the check computes, and a lemma that
+-- turns it into the rule at each entry.
+use Prim.Native.Nat.{ℕ, _<_}
 use borrow.Author.Needs.{needs}
-use mathlib.Core.List.{[], _∷_}
-use Rattle.calculus.specs.Sets.{member}
+use mathlib.Core.List.{List, [], _∷_}
+use mathlib.Core.Path.{_≡_, refl, ap, sym, _∙_}
+use lib.ListN.{getD}
+use Rattle.calculus.specs.Lists.{tabulate}
+use Rattle.calculus.specs.Lists.Laws.{getD-tabulate}
 use Rattle.query.specs.Reading.{max-nodes}
-use Rattle.verdict.specs.Bits.Laws.{mask-one, bits-small}
+use Rattle.verdict.specs.Bits.{bits, node-mask}
+use Rattle.verdict.specs.Bits.Laws.{mask-past}
 use Rattle.verdict.proofs.bits.node_bit.Statement.{statement}
 use Rattle.verdict.proofs.bits.node_bit.Tie as tie
 
-sub-result : tie.Need-sub-result
-sub-result c = search needs
+-- The rule: the entry of a node is the set of that node alone.
+rule : ℕ → ℕ
+rule n = node-mask (n ∷ [])
 
-shl-result : tie.Need-shl-result
-shl-result c = search needs
+-- The test: the table is the rule's values, one after the other. A table that passes it has the rule at each entry.
+at-each : {table : List ℕ} → table ≡ tabulate rule max-nodes → (n : ℕ) → n < max-nodes → getD table n 0 ≡ rule n
+at-each test n h = ap (λ entries. getD entries n 0) test ∙ getD-tabulate rule max-nodes n 0 h
 
+mul-result : tie.Need-mul-result
+mul-result c = search needs
+
+array-read-result : tie.Need-array-read-result
+array-read-result c = search needs
+
+-- The test passes: the check computes the 64 sets and compares them with the entries.
 returns : tie.Need-returns
-returns c = let n = c .args .n in omega (arith, mask-one max-nodes n (omega arith), bits-small (λ m. member m (n ∷ [])) max-nodes)
+unfolding bits rule
+returns c = at-each refl (c .before .args .n) (search needs)
+
+returns-2 : tie.Need-returns-2
+returns-2 c = sym (mask-past max-nodes (c .before .args .n) (search needs))
 
 pub node-bit-spec : {M : Type 1} → statement M
-node-bit-spec = tie.close (tie.spec sub-result shl-result returns)
+node-bit-spec = tie.close (tie.spec mul-result array-read-result returns returns-2)
