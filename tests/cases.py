@@ -1,4 +1,5 @@
-"""The cases that crates/trials is tried on: named ones, random ones, every small formula, and stores, answers and lists at their limits.
+"""The cases that crates/trials is tried on: named ones, random ones, every small formula, each node by itself, and stores, answers and
+lists at their limits.
 
 Each has the reply that the accounts give: account.py, verdicts.py, answers.py and ledger.py, which share nothing with the engine. Where a case or its name says
 what document 01 wants, the account's reply is held against that as the case is made.
@@ -937,16 +938,16 @@ def small_answer_cases(size):
 # ---- each node by itself
 
 def ungenerating(n):
-    """So many nodes, from 2 on, in which x is free and not generated: under an odd number of nots 1(x), or exists y 0(x,y)."""
+    """n nodes, from 2 on, in which x is free and not generated: 1(x), or exists y 0(x,y), under an odd number of nots."""
     return chain(n) if n % 2 == 0 else [R0, some(1, 0)] + [no(i) for i in range(1, n - 1)]
 
 
 def node_cases():
-    """Each node that can be as the only generator of x, and as the only exists reported."""
-    generated = {0: ([R1], [[0]]), 1: ([record(1, 1), R1, both(0, 1)], [[1], [0]])}
-    generated |= {n: (ungenerating(n) + [R1, both(n - 1, n)], [[n]]) for n in range(2, 63)}
-    for n, (nodes, generators) in generated.items():
-        verdict_case(f"node {n} generates", words_bytes(nodes), expect=reports(generators, [], [], True))
+    """For each node that can be one, a verdict in which it is the only generator, of x (0 to 62), and one in which it is the only exists reported (1 to 63)."""
+    generated = {0: [R1], 1: [record(1, 1), R1, both(0, 1), some(1, 2)]}
+    generated |= {n: ungenerating(n) + [R1, both(n - 1, n)] for n in range(2, 63)}
+    for n, nodes in generated.items():
+        verdict_case(f"node {n} generates", words_bytes(nodes), expect=reports([[n]], [], [], True))
     reported = {1: ([equality(0, 1), some(1, 0)], [[]], [0])}
     reported |= {n: (ungenerating(n) + [some(0, n - 1)], [], []) for n in range(2, 64)}
     for n, (nodes, generators, ungenerated) in reported.items():

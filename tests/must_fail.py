@@ -62,12 +62,13 @@ class Program:
         return self.path.parent.parent.name
 
     def functions(self):
-        """The functions whose bodies it changes, as the folders of their proofs; None for a change outside of any."""
+        """The functions whose bodies or private tables it changes, as the folders of their proofs; None for a change outside of any."""
         return {function_at(self.path.parent.parent, file, old) for file, old, _ in self.changes}
 
 
 def function_at(crate, file, text):
-    """The function of a source file that has the text, as the end of its proof's path: module/function. A private table is of the function that alone names it."""
+    """The function of a source file that has the text, as the end of its proof's path: module/function. A private table is of the function that alone names it,
+    in the whole crate."""
     if not file.startswith("src/"):
         return None
     source = (crate / file).read_text()
@@ -75,8 +76,10 @@ def function_at(crate, file, text):
     at = source.find(text)
     around = [f[1] for f in functions if f.start() < at < f.end()]
     for table in re.finditer(r"^const (\w+)[^\n]*\[\n.*?^\];$", source, re.M | re.S):
-        if table.start() < at < table.end():
-            around = [f[1] for f in functions if re.search(rf"\b{table[1]}\b", f[0])]
+        if table.start() <= at < table.end():
+            named = rf"\b{table[1]}\b"
+            elsewhere = any(re.search(named, other.read_text()) for other in (crate / "src").glob("**/*.rt") if other != crate / file)
+            around = [f[1] for f in functions if re.search(named, f[0])] if not elsewhere else []
     if len(around) != 1:
         return None
     module = pathlib.Path(file).stem
@@ -101,7 +104,7 @@ def programs_of(path):
     for program in programs:
         functions = program.functions()
         if len(functions) != 1 or None in functions or functions & seen:
-            raise Bad(f"{path}: {program.name} doesn't change the body of one function of its own")
+            raise Bad(f"{path}: {program.name} doesn't change the body, or the private table, of one function of its own")
         for fact, file in program.facts:
             if not is_proof_of(*functions, fact, file):
                 raise Bad(f"{path}: {program.name}: {fact} in {file} is not of the proof of {functions}")

@@ -4,8 +4,8 @@
 trials.py             compares crates/trials/stdin and crates/trials/stdout with the stored cases; exit status 1 where they differ
 trials.py --write     writes both files
 trials.py --random N  runs the built program on N batches of random queries, verdicts, stores, answers and runs, on the verdicts of all formulas of at most
-                      five nodes over seven leaves, on the answers of all such formulas over six leaves and six stores, on verdicts that name a node by
-                      itself, for each node, and on answers of many rows, and compares; exit status 1 where they differ
+                      five nodes over seven leaves, on the answers of all such formulas over six leaves and six stores, for each node on a
+                      verdict that names it alone, and on answers of many rows, and compares; exit status 1 where they differ
 """
 import pathlib
 import random

@@ -76,9 +76,9 @@ const NODE_BITS: [u64; NODES] = [
     0x0000_0000_0000_0001, // node 63
 ];
 
-// The bit that stands for node n, from the table; no bit for a number that no node has. Where it comes from is not seen outside this function.
-// A `const` table is written to the stack where it is read. The test makes this a call for the compiler, which else reads the table in `source::plain` itself,
-// and so writes it to the frame of each of its calls.
+// The bit that stands for node n, from the table. No caller asks for a number from `NODES` on, which has no bit.
+// A `const` table is written to the stack where it is read. The test keeps the compiler from inlining this function into `source::plain`, which calls itself:
+// each of its frames would hold the table.
 pub fn node_bit(n: usize) -> u64
     requires { ⌜ n < max-nodes ⌝ }
     ensures { λ r. ⌜ r ≡ node-mask (n ∷ []) ⌝ }
