@@ -445,6 +445,8 @@ static void every_lines(void) {
 }
 
 static void pair_lines(void) {
+    ask("equal to a bent joint, the equality first", conj(eq(A, B), is_bent(A)),
+        "SELECT DISTINCT joint, joint FROM bends ORDER BY 1, 2");
     ask("pairs on one joint", exists(conj(on_joint(A, C), on_joint(B, C), neg(eq(A, B))), C),
         "SELECT DISTINCT f.feature, g.feature FROM features f JOIN features g ON g.joint = f.joint WHERE f.feature <> g.feature ORDER BY 1, 2");
     ask("joints, and pairs on them", conj(on_joint(B, A), on_joint(C, A), neg(eq(B, C))),
@@ -569,8 +571,6 @@ static void yes_no_lines(void) {
 
 // Not safe-range, but with finitely many rows over these stores.
 static void unsafe_lines(void) {
-    ask("unsafe: equal to a bent joint", conj(eq(A, B), is_bent(A)),
-        "SELECT DISTINCT joint, joint FROM bends ORDER BY 1, 2");
     ask("unsafe: an equality denied twice", neg(disj(neg(on_joint(A, B)), neg(eq(B, C)))),
         "SELECT DISTINCT feature, joint, joint FROM features ORDER BY 1, 2, 3");
     ask("unsafe: exists over an or", exists(disj(has_weld(A, B), is_bent(A)), B),

@@ -14,11 +14,11 @@
 #include <stdio.h>
 #include <stdlib.h>
 #include <string.h>
-#include <time.h>
 
 #include "palmrummy.h"
+#include "timing.h"
 
-enum { LONG = 8192, BATCHES = 7, HEAD = PALMRUMMY_INPUT_RECORDS + PALMRUMMY_RECORD };
+enum { LONG = 8192, HEAD = PALMRUMMY_INPUT_RECORDS + PALMRUMMY_RECORD };
 
 static void die(const char *what, const char *which) {
     fprintf(stderr, "rules: %s: %s\n", which, what);
@@ -34,11 +34,18 @@ typedef struct {
     uint64_t place, sum;
 } Work;
 
-static uint32_t pack_rule(Work *w) { return palmrummy_rule(w->text, w->text_length, w->query, &w->place); }
+static uint32_t pack_rule(void *work) {
+    Work *w = work;
+    return palmrummy_rule(w->text, w->text_length, w->query, &w->place);
+}
 
-static uint32_t read_packed(Work *w) { return palmrummy_verdict(w->input, w->input_length, w->verdict); }
+static uint32_t read_packed(void *work) {
+    Work *w = work;
+    return palmrummy_verdict(w->input, w->input_length, w->verdict);
+}
 
-static uint32_t add_up(Work *w) {
+static uint32_t add_up(void *work) {
+    Work *w = work;
     static const uint8_t table[256] = {['0'] = 1, ['X'] = 2, ['r'] = 3, [','] = 4, ['('] = 5, [')'] = 6};
     uint64_t sum = w->sum;
     for (size_t i = 0; i < w->text_length; i++) sum = sum * 31 + table[w->text[i]];
@@ -58,49 +65,6 @@ static void set_input(Work *w, size_t length) {
     w->input[PALMRUMMY_INPUT_RECORDS] = PALMRUMMY_RELATIONS;
     memcpy(w->input + HEAD, w->query, length);
     w->input_length = HEAD + length;
-}
-
-// ---- Timing -----------------------------------------------------------------------------------------------------------------------------------------------
-
-static double now(void) {
-    struct timespec t;
-    clock_gettime(CLOCK_MONOTONIC, &t);
-    return (double)t.tv_sec + 1e-9 * (double)t.tv_nsec;
-}
-
-static volatile uint32_t kept;  // so that no run is left out
-
-// Seconds of one run, over 5 ms.
-static double batch(uint32_t (*run)(Work *), Work *w) {
-    double start = now(), spent = 0;
-    int n = 0;
-    do {
-        for (int i = 0; i < 20; i++) kept = run(w);
-        n += 20;
-        spent = now() - start;
-    } while (spent < 5e-3);
-    return spent / n;
-}
-
-static int by_time(const void *a, const void *b) {
-    double x = *(const double *)a, y = *(const double *)b;
-    return (x > y) - (x < y);
-}
-
-static double median(double *times) {
-    qsort(times, BATCHES, sizeof times[0], by_time);
-    return times[BATCHES / 2];
-}
-
-// Seconds of one run of each: the median of several batches, taken in turn, so that a busy machine slows both down alike.
-static void timed(Work *w, uint32_t (*one)(Work *), uint32_t (*other)(Work *), double *of_one, double *of_other) {
-    double ones[BATCHES], others[BATCHES];
-    for (int b = 0; b < BATCHES; b++) {
-        ones[b] = batch(one, w);
-        others[b] = batch(other, w);
-    }
-    *of_one = median(ones);
-    *of_other = median(others);
 }
 
 // ---- The report -------------------------------------------------------------------------------------------------------------------------------------------

@@ -13,7 +13,7 @@ from menu_show import Showing
 LONG = 60  # characters of a formula in a sentence
 
 
-# ---- document 01's order of generation, in words: all that changes with it stands here and in Reasons.reason
+# ---- the order of generation, document 01's with document 02's Point 3, in words: all that changes with it stands here and in Reasons.reason
 
 class Rule(typing.NamedTuple):
     """What a node generates: what its children do, judged as denied or plainly."""
@@ -36,12 +36,11 @@ NOTHING = {
     (EQUALITY, True): "a denied equality generates nothing",
     (EXISTS, True): "a denied exists generates nothing",
 }
-EQUATES = "; the right side equates {0} with {1}, which the left side doesn't generate"
-NO_EQUALITY = "; the right side is no equality with {0}, so nothing is carried over"
+EQUATES = "; the {2} side equates {0} with {1}, which the {3} side doesn't generate"
+NO_EQUALITY = "; neither side is an equality with {0}, so nothing is carried over"
 LOST = "constant propagation dropped {0}: it is not free in the form, so no node can generate it"
 MEND_COLUMN = "join the whole line by and with a record that names {0}, or with {0} = a number"
 MEND_EXISTS = "join what stands under exists {0} by and with a record that names {0}, or with {0} = a number"
-MEND_SIDES = "or exchange the sides of node {0}, which keeps the rows: an and looks for an equality with {1} at its right only"
 MEND_OR = "or move exists {1} into node {0}, which keeps the rows: the other side of the or doesn't name {1}"
 
 
@@ -60,7 +59,7 @@ class Reasons:
 
     def __init__(self, engine, widths, constants, nodes, names):
         self.engine, self.widths, self.constants, self.nodes, self.names = engine, bytes(widths), constants, nodes, names
-        self.verdicts, self.told, self.mends = {}, set(), []
+        self.verdicts, self.told = {}, set()
 
     def judged(self, i, x, denied):
         """The verdict on a node, under a not where it is denied. Free variables past a query's columns, none of them x, are bound: an exists generates what its
@@ -102,12 +101,13 @@ class Reasons:
         reason = f"{rule.words}, and {self.lacking(asked, name)}"
         if (kind, denied) != (AND, False):
             return reason, asked
-        other, reverse = self.equated(below[1], x), self.equated(below[0], x)
-        if reverse is not None and self.generates(below[1], reverse, False):
-            self.mends.append(MEND_SIDES.format(i, name))
-        if other is None:
+        left, right = below
+        sides = [(self.equated(side, x), other, words) for side, other, words in ((right, left, ("right", "left")), (left, right, ("left", "right")))]
+        sides = [side for side in sides if side[0] is not None]
+        if not sides:
             return reason + NO_EQUALITY.format(name), asked
-        return reason + EQUATES.format(name, self.names.variable(other)), [*asked, (below[0], other, False)]
+        carried = "".join(EQUATES.format(name, self.names.variable(y), *words) for y, _, words in sides)
+        return reason + carried, [*asked, *((other, y, False) for y, other, _ in sides)]
 
     def side_to_move_to(self, i, x):
         """The side of an or that names x, where the other doesn't."""
@@ -240,13 +240,13 @@ class Explanation:
         for x in verdict.ungenerated:
             reasons = Reasons(engine, self.data[:16], verdict.constants, verdict.nodes, self.names)
             step = None if x in self.lost else reasons.step(root, x)
-            self.columns[x] = step, [MEND_COLUMN.format(self.names.variable(x)), *reasons.mends]
+            self.columns[x] = step, [MEND_COLUMN.format(self.names.variable(x))]
         for i in verdict.unranged:
             x, child = fields(verdict.nodes[i])[1]
             reasons = Reasons(engine, self.data[:16], verdict.constants, verdict.nodes, self.names)
             step, side = reasons.step(child, x), reasons.side_to_move_to(child, x)
             moves = [] if side is None else [MEND_OR.format(side, self.names.variable(x))]
-            self.exists[i] = step, [MEND_EXISTS.format(self.names.variable(x)), *reasons.mends, *moves]
+            self.exists[i] = step, [MEND_EXISTS.format(self.names.variable(x)), *moves]
 
     def text(self, i):
         """A node of the form in a sentence."""

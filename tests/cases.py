@@ -1,8 +1,8 @@
-"""The cases that crates/trials is tried on: named ones, random ones, every small formula, each node by itself, and stores, answers and
-lists at their limits.
+"""The cases that crates/trials is tried on: named ones, random ones, every small formula, each node by itself, equalities on either side of
+an and, and stores, answers and lists at their limits.
 
 Each has the reply that the accounts give: account.py, verdicts.py, answers.py and ledger.py, which share nothing with the engine. Where a case or its name says
-what document 01 wants, the account's reply is held against that as the case is made.
+what document 01 or 02 wants, the account's reply is held against that as the case is made.
 """
 import math
 import random
@@ -340,7 +340,7 @@ def named_verdict_cases():
     v("0(x,y) and not 1(x)", NODES, [[0], [0]], [], [], NODES)
     v("not 1(x)", [R1, no(0)], [[]], [0], [])
     v("1(x) and x = y", [R1, equality(0, 1), both(0, 1)], [[0], [0]], [], [])
-    v("x = y and 1(x)", [equality(0, 1), R1, both(0, 1)], [[1], []], [1], [])
+    v("x = y and 1(x)", [equality(0, 1), R1, both(0, 1)], [[1], [1]], [], [])
     v("not (not 1(x) or not x = y)", [R1, no(0), equality(0, 1), no(2), either(1, 3), no(4)], [[0], []], [1], [])
     v("1(x) and y = y", [R1, equality(1, 1), both(0, 1)], [[0], []], [1], [], [R1])
     v("false and 1(x)", [FALSE, R1, both(0, 1)], [[]], [], [], [FALSE])
@@ -465,7 +465,7 @@ def named_answer_cases():
     a("0(x,y) and not 1(x)", NODES, [[9, 3]], True)
     a("not 1(x)", [R1, no(0)], None, False)
     a("1(x) and x = y", [R1, equality(0, 1), both(0, 1)], [[7, 7]], True)
-    a("x = y and 1(x)", [equality(0, 1), R1, both(0, 1)], [[7, 7]], False)
+    a("x = y and 1(x)", [equality(0, 1), R1, both(0, 1)], [[7, 7]], True)
     a("not (not 1(x) or not x = y)", [R1, no(0), equality(0, 1), no(2), either(1, 3), no(4)], [[7, 7]], False)
     a("1(x) and y = y", [R1, equality(1, 1), both(0, 1)], None, False)
     a("1(x) and y = y over no records", [R1, equality(1, 1), both(0, 1)], [], False, (), [])
@@ -519,7 +519,7 @@ def named_answer_cases():
     r("answer: 8", "8 1", nodes_with(n1=R1 | 16 << 17))
     r("answer: 9", "9 1", nodes_with(n1=0x2E400000))
     r("answer: 10, 5 free variables, before 11", "10 0", words_bytes(joined([equality(0, 1), equality(2, 3), equality(4, 4)])), safe=True)
-    r("answer: 11 before 18", "11 0", words_bytes([equality(0, 1), R1, both(0, 1)]), safe=True, room=0)
+    r("answer: 11 before 18", "11 0", words_bytes([R1, no(0), equality(0, 1), no(2), either(1, 3), no(4)]), safe=True, room=0)
     answer_case("endless before 18", Store(WIDTHS_S, THREE), THREE, words_bytes([R1, no(0)]), 0, False, " endless")
 
 
@@ -952,6 +952,73 @@ def node_cases():
     reported |= {n: (ungenerating(n) + [some(0, n - 1)], [], []) for n in range(2, 64)}
     for n, (nodes, generators, ungenerated) in reported.items():
         verdict_case(f"node {n} reported", words_bytes(nodes), expect=reports(generators, ungenerated, [n], False))
+
+
+# ---- document 02's equality on either side
+
+def nested(leaves):
+    """The leaves joined by and, to the right."""
+    nodes, top = list(leaves), len(leaves) - 1
+    for i in range(len(leaves) - 2, -1, -1):
+        nodes.append(both(i, top))
+        top = len(nodes) - 1
+    return nodes
+
+
+def alternating(n):
+    """1(x) and n equalities of x and y joined by and, each at the other side than the one before, in packing's order."""
+    on_left = [equality(i % 2, 1 - i % 2) for i in range(n) if i % 2]
+    nodes, top = on_left + [R1], len(on_left)
+    for i in range(n):
+        if i % 2:
+            nodes.append(both(len(on_left) - 1 - i // 2, top))
+        else:
+            nodes += [equality(0, 1), both(top, len(nodes))]
+        top = len(nodes) - 1
+    return nodes
+
+
+def equality_cases():
+    """Verdicts that Point 3 changes, and those that it leaves: each with the generators, and the variables that aren't generated."""
+    def e(name, nodes, generators, ungenerated=(), form=None, constants=(), widths=WIDTHS_S):
+        end = reports(generators, ungenerated, [], not ungenerated)
+        if form is not None:
+            end = " nodes" + "".join(f" {w:08x}" for w in form) + end
+        verdict_case(name, words_bytes(nodes, constants), widths, end)
+
+    xy, yz, Y, Z = equality(0, 1), equality(1, 2), record(1, 1), record(1, 2)
+    e("y = x and 1(x)", [equality(1, 0), R1, both(0, 1)], [[1], [1]])
+    e("x = y and 1(y)", [xy, Y, both(0, 1)], [[1], [1]])
+    e("x = y and (1(x) or 1(x)): both", [xy, R1, R1, either(1, 2), both(0, 3)], [[1, 2], [1, 2]])
+    e("(true and x = y) and 1(x)", [TRUE, xy, both(0, 1), R1, both(2, 3)], [[1], [1]], form=[xy, R1, both(0, 1)])
+    # the order
+    e("x = y and (1(x) and 2(y)): the right child first", [xy, R1, record(2, 1), both(1, 2), both(0, 3)], [[1], [2]], widths=[2, 1, 1] + [0] * 13)
+    e("(x = y and 1(x)) and 1(y): y from node 1", [xy, R1, both(0, 1), Y, both(2, 3)], [[1], [1]])
+    e("x = y and (1(x) and x = y): the right child first", [xy, R1, xy, both(1, 2), both(0, 3)], [[1], [1]])
+    # denied, and under two nots
+    e("not (not x = y or not 1(x))", [xy, no(0), R1, no(2), either(1, 3), no(4)], [[2], []], [1])
+    e("not (x = y or not 1(x))", [xy, R1, no(1), either(0, 2), no(3)], [[1], []], [1])
+    e("not not x = y and 1(x)", [xy, no(0), no(1), R1, both(2, 3)], [[3], []], [1])
+    e("not (not (x = y and 1(x)))", [xy, R1, both(0, 1), no(2), no(3)], [[1], [1]])
+    # what is no equality of two variables
+    e("x = x and 1(y)", [equality(0, 0), Y, both(0, 1)], [[], [0]], [0], form=[Y])
+    e("(x = 9 and 1(x)) and not 0(x,y)", [equality(0, 17), R1, both(0, 1), R0, no(3), both(2, 4)], [[0], []], [1], constants=[7, 9])
+    e("x = 9 and 1(y)", [equality(0, 17), Y, both(0, 1)], [[0], [1]], constants=[7, 9])
+    # bound variables
+    e("x = y and exists x 1(x)", [xy, R1, some(0, 1), both(0, 2)], [[], []], [0, 1])
+    e("x = y and exists y 0(x,y)", [xy, R0, some(1, 1), both(0, 2)], [[1], [1]])
+    e("exists y (x = y and 1(y))", [xy, Y, both(0, 1), some(1, 2)], [[1]])
+    e("exists x (x = y and 1(x))", [xy, R1, both(0, 1), some(0, 2)], [[1]])
+    # chains
+    e("x = y and y = z", [xy, yz, both(0, 1)], [[], [], []], [0, 1, 2])
+    e("(x = y and y = z) and 1(z)", [xy, yz, both(0, 1), Z, both(2, 3)], [[], [], [3]], [0, 1])
+    e("x = y and (y = z and 1(z))", [xy, yz, Z, both(1, 2), both(0, 3)], [[2], [2], [2]])
+    e("1(x) and (x = y and 1(z))", [R1, xy, Z, both(1, 2), both(0, 3)], [[0], [], [2]], [1])
+    e("y = z and (x = y and 1(z))", [yz, xy, Z, both(1, 2), both(0, 3)], [[], [2], [2]], [0])
+    e("31 equalities to the right", nested([xy] * 31 + [R1]), [[31], [31]])
+    e("31 equalities to the left", joined([R1] + [xy] * 31), [[0], [0]])
+    e("31 equalities, on either side in turn", alternating(31), [[15], [15]])
+    e("31 equalities to the right, and no record", nested([xy] * 31 + [yz]), [[], [], []], [0, 1, 2])
 
 
 # ---- those that are stored

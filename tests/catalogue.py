@@ -140,7 +140,7 @@ WORKED = [
     ("joint(x, y) and not weld(x)", "safe", "0 1", [(9, 3)]),
     ("not weld(x)", "unsafe", "0", None),
     ("weld(x) and x = y", "safe", "0 1", [(7, 7)]),
-    ("x = y and weld(x)", "unsafe", "0 1", [(7, 7)]),
+    ("x = y and weld(x)", "safe", "0 1", [(7, 7)]),
     ("not (not weld(x) or not x = y)", "unsafe", "0 1", [(7, 7)]),
     ("weld(x) and y = y", "unsafe", "0 1", None),
     ("false and weld(x)", "safe", "0", []),

@@ -37,7 +37,7 @@ def check_citations(page, problems):
 
 
 def check_cases(page, problems):
-    trials = {c.name for make in (cases.stored_cases, cases.node_cases, cases.large_store_cases, cases.large_answer_cases, cases.large_run_cases) for c in cases.made(make)}
+    trials = {c.name for make in (cases.stored_cases, cases.node_cases, cases.equality_cases, cases.large_store_cases, cases.large_answer_cases, cases.large_run_cases) for c in cases.made(make)}
     edges = {name for name, *_ in [*catalogue.worked_cases(), *catalogue.limit_cases()]}
     count = 0
     for line in (line for line in page.split("\n") if line.startswith("|")):

@@ -5,7 +5,8 @@ trials.py             compares crates/trials/stdin and crates/trials/stdout with
 trials.py --write     writes both files
 trials.py --random N  runs the built program on N batches of random queries, verdicts, stores, answers and runs, on the verdicts of all formulas of at most
                       five nodes over seven leaves, on the answers of all such formulas over six leaves and six stores, for each node on a
-                      verdict that names it alone, and on answers of many rows, and compares; exit status 1 where they differ
+                      verdict that names it alone, on verdicts with an equality on either side of an and, and on answers of many rows, and
+                      compares; exit status 1 where they differ
 """
 import pathlib
 import random
@@ -123,6 +124,7 @@ def runs(number):
         for size in range(1, 6):
             yield f"{size} nodes", make, size
     yield "each node", cases.node_cases
+    yield "equality on either side", cases.equality_cases
     yield "large stores", cases.large_store_cases
     yield "large answers", cases.large_answer_cases
     yield "large lists", cases.large_run_cases

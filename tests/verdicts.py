@@ -84,7 +84,7 @@ def words(f, start=0):
     return left + right + [(4 if kind == "and" else 5) << 29 | start + len(left) - 1 << 23 | top << 17]
 
 
-# ---- generation: document 01's order. None where x isn't generated, else the set of leaf nodes
+# ---- generation: document 01's order with document 02's Point 3. None where x isn't generated, else the set of leaf nodes
 
 @functools.cache
 def plain(f, n, x):
@@ -106,9 +106,17 @@ def plain(f, n, x):
         return left
     if right is not None:
         return right
-    if f[2][0] == "equality" and f[2][3] < 16 and f[2][2] != f[2][3] and x in f[2][2:4]:
-        return plain(f[1], n, f[2][3] if x == f[2][2] else f[2][2])
-    return None
+    by_right = None if other(f[2], x) is None else plain(f[1], n, other(f[2], x))
+    if by_right is not None or other(f[1], x) is None:
+        return by_right
+    return plain(f[2], n + size(f[1]), other(f[1], x))
+
+
+def other(f, x):
+    """The variable that f equates x with, where it equates it with another one."""
+    if f[0] != "equality" or f[3] >= 16 or f[2] == f[3] or x not in f[2:4]:
+        return None
+    return f[3] if x == f[2] else f[2]
 
 
 @functools.cache
@@ -124,10 +132,10 @@ def denied(f, n, x):
     return None if left is None or right is None else left | right
 
 
-# ---- generation: 000's rules, as a search for a derivation of "x is generated in f by some set"
+# ---- generation: 000's rules, and with document 02's Point 3, as a search for a derivation of "x is generated in f by some set"
 
 @functools.cache
-def generated(f, x):
+def generated(f, x, widened=True):
     kind = f[0]
     if kind == "truth":
         return not f[1]
@@ -136,21 +144,21 @@ def generated(f, x):
     if kind == "equality":
         return f[3] >= 16 and x in free(f)
     if kind == "or":
-        return generated(f[1], x) and generated(f[2], x)
+        return generated(f[1], x, widened) and generated(f[2], x, widened)
     if kind == "exists":
-        return x != f[1] and generated(f[2], x)
+        return x != f[1] and generated(f[2], x, widened)
     if kind == "and":
-        if generated(f[1], x) or generated(f[2], x):
+        if generated(f[1], x, widened) or generated(f[2], x, widened):
             return True
-        g = f[2]
-        return g[0] == "equality" and g[3] < 16 and any(a == x and generated(f[1], b) for a, b in ((g[2], g[3]), (g[3], g[2])))
+        sides = [(f[2], f[1])] + [(f[1], f[2])] * widened
+        return any(g[0] == "equality" and g[3] < 16 and any(a == x and generated(h, b, widened) for a, b in ((g[2], g[3]), (g[3], g[2]))) for g, h in sides)
     g = f[1]
     if g[0] == "not":
-        return generated(g[1], x)
+        return generated(g[1], x, widened)
     if g[0] == "or":
-        return generated(("and", ("not", g[1]), ("not", g[2])), x)
+        return generated(("and", ("not", g[1]), ("not", g[2])), x, widened)
     if g[0] == "and":
-        return generated(("or", ("not", g[1]), ("not", g[2])), x)
+        return generated(("or", ("not", g[1]), ("not", g[2])), x, widened)
     return False
 
 
@@ -177,6 +185,7 @@ def verdict(columns, nodes):
     leaves = {x: plain(form, 0, x) for x in columns}
     for x in range(16):
         assert generated(form, x) == (plain(form, 0, x) is not None), (form, x)
+        assert generated(form, x) or not generated(form, x, False), (form, x)
     ungenerated = [x for x in columns if leaves[x] is None]
     unranged = [n for n, f in subformulas(form) if f[0] == "exists" and plain(f[2], 0, f[1]) is None]
     generators = [bits(leaves[x] or (), 64) for x in columns]

@@ -1,5 +1,5 @@
--- Document 01's generation order, "From formula to verdict": of the sets that 000 allows it takes one, and names the leaf nodes
--- before 000's substitution and quantifiers. Definitions only; the laws are in Generators/Laws.antt.
+-- Document 01's generation order, "From formula to verdict", with document 02's Point 3: of the sets that the rules allow (Ranging) it takes one, and names the
+-- leaf nodes before 000's substitution and quantifiers. Definitions only; the laws are in Generators/Laws.antt.
 use Prim.Native.Nat.{ℕ, _+_}
 use mathlib.Core.Bool.{Bool, true, false, _&&_, cond}
 use mathlib.Core.List.{List, [], _∷_, _++_, map}
@@ -67,8 +67,13 @@ abbrev mutual
   plain (eq y (con p)) n x = leaf-where (eqb x y) n
   -- "or as denied when it stands under a not"
   plain (neg φ) n x = denied φ n x
-  -- "Plain and: left, else right, else, where the right child equates the variable with another, as left generates that other."
-  plain (conj φ ψ) n x = first (plain φ n x) (first (plain ψ (n + size φ) x) (through (equated ψ x) (λ y. plain φ n y)))
+  -- "Plain and: left, else right, else, where the right child equates the variable with another, as left generates that other." Document 02: else, where the
+  -- left child equates it with another, as right generates that other.
+  plain (conj φ ψ) n x =
+      first (plain φ n x)
+      (first (plain ψ (n + size φ) x)
+      (first (through (equated ψ x) (λ y. plain φ n y))
+      (through (equated φ x) (λ y. plain ψ (n + size φ) y))))
   -- "Plain or: both children, nodes united."
   plain (disj φ ψ) n x = both (plain φ n x) (plain ψ (n + size φ) x)
   -- "Exists: its child, for another variable than the bound one."

@@ -7,6 +7,7 @@ pub mod Satisfaction
 pub mod Propagation
 pub mod Substitution
 pub mod Generation
+pub mod Ranging
 pub mod Generators
 pub mod Sources
 pub mod SafeRange

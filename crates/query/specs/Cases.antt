@@ -1,4 +1,5 @@
--- Document 01's worked cases over the store S, the starred ones, one for the trap that they leave open, and two in which 000 allows a choice, as one table over packed queries.
+-- Document 01's worked cases over the store S, the starred ones, one for the trap that they leave open, two in which 000 allows a choice, and two in which document 02 does,
+-- as one table over packed queries.
 -- Definitions only; that the table is right is Cases/Laws.antt.
 use Prim.Native.Nat.{ℕ}
 use mathlib.Core.Path.{_≡_}
@@ -77,14 +78,14 @@ cases =
       says-safe = true;
       gives = only (7 ∷ 7 ∷ []);
     }
-    -- x = y and 1(x)
+    -- x = y and 1(x), which document 02's Point 3 makes safe-range: y as the right child generates x
     ∷ record {
       records = S;
       bytes = 0x10 ∷ 0x60 ∷ 0x40 ∷ 0x10 ∷ 0x00 ∷ 0x00 ∷ 0x22 ∷ 0x40 ∷ 0x00 ∷ 0x00 ∷ 0x80 ∷ 0x02 ∷ 0x00 ∷ 0x00 ∷ [];
       constants = [];
       query = conj (eq 0 y) (rel 1 (x ∷ []));
-      says = record { columns-read = 0 ∷ 1 ∷ []; generators = (1 ∷ []) ∷ [] ∷ []; ungenerated = 1 ∷ []; unranged = [] };
-      says-safe = false;
+      says = record { columns-read = 0 ∷ 1 ∷ []; generators = (1 ∷ []) ∷ (1 ∷ []) ∷ []; ungenerated = []; unranged = [] };
+      says-safe = true;
       gives = only (7 ∷ 7 ∷ []);
     }
     -- not (not 1(x) or not x = y)
@@ -204,6 +205,26 @@ cases =
       says = record { columns-read = 0 ∷ []; generators = (0 ∷ []) ∷ []; ungenerated = []; unranged = [] };
       says-safe = true;
       gives = only (7 ∷ []);
+    }
+    -- (x = y and 1(x)) and 1(y): document 02's "from an earlier child"; y came from node 3 before, and comes from node 1 now
+    ∷ record {
+      records = S;
+      bytes = 0x10 ∷ 0xa0 ∷ 0x40 ∷ 0x10 ∷ 0x00 ∷ 0x00 ∷ 0x22 ∷ 0x40 ∷ 0x00 ∷ 0x00 ∷ 0x80 ∷ 0x02 ∷ 0x00 ∷ 0x00 ∷ 0x22 ∷ 0x42 ∷ 0x00 ∷ 0x00 ∷ 0x81 ∷ 0x06 ∷ 0x00 ∷ 0x00 ∷ [];
+      constants = [];
+      query = conj (conj (eq 0 y) (rel 1 (x ∷ []))) (rel 1 (y ∷ []));
+      says = record { columns-read = 0 ∷ 1 ∷ []; generators = (1 ∷ []) ∷ (1 ∷ []) ∷ []; ungenerated = []; unranged = [] };
+      says-safe = true;
+      gives = only (7 ∷ 7 ∷ []);
+    }
+    -- x = y and (1(x) and 1(y)): the equality is tried after the right child, which generates each from its own record
+    ∷ record {
+      records = S;
+      bytes = 0x10 ∷ 0xa0 ∷ 0x40 ∷ 0x10 ∷ 0x00 ∷ 0x00 ∷ 0x22 ∷ 0x40 ∷ 0x00 ∷ 0x00 ∷ 0x22 ∷ 0x42 ∷ 0x00 ∷ 0x00 ∷ 0x80 ∷ 0x84 ∷ 0x00 ∷ 0x00 ∷ 0x80 ∷ 0x06 ∷ 0x00 ∷ 0x00 ∷ [];
+      constants = [];
+      query = conj (eq 0 y) (conj (rel 1 (x ∷ [])) (rel 1 (y ∷ [])));
+      says = record { columns-read = 0 ∷ 1 ∷ []; generators = (1 ∷ []) ∷ (2 ∷ []) ∷ []; ungenerated = []; unranged = [] };
+      says-safe = true;
+      gives = only (7 ∷ 7 ∷ []);
     }
     ∷ []
 

@@ -1,7 +1,8 @@
-// The leaf nodes that a variable is generated from: document 01's order, plain and denied. Each of the two calls itself with a child, whose number is below
+// The leaf nodes that a variable is generated from: document 01's order with document 02's last step, plain and denied. Each of the two calls itself with a child, whose number is below
 // its node's, and the other one through a not. The sets of `generate` say which way the order takes, so that no node is looked at twice;
 // both ask for the nodes of a form with these sets, and for one of the 16 variables.
 use crate::bits;
+use crate::generate;
 use query::NODES;
 use query::node;
 ghost use mathlib.Core.Path.{_≡_};
@@ -49,14 +50,17 @@ pub fn plain<'a>(
     match kind {
         0 => 0, // false: from no node
         3 => denied(nodes, plains, denieds, n, left, x),
-        4 => { // and: left, else right, else by equality
+        4 => { // and: left, else right, else by an equality: on the right, else on the left
             if bits::is_in(x, plains[left]) {
                 return plain(nodes, plains, denieds, n, left, x);
             }
             if bits::is_in(x, plains[right]) {
                 return plain(nodes, plains, denieds, n, right, x);
             }
-            plain(nodes, plains, denieds, n, left, other(all[right], x))
+            if bits::is_in(x, generate::equated(all[right], plains[left])) {
+                return plain(nodes, plains, denieds, n, left, other(all[right], x));
+            }
+            plain(nodes, plains, denieds, n, right, other(all[left], x))
         }
         5 => { // or: both
             plain(nodes, plains, denieds, n, left, x) | plain(nodes, plains, denieds, n, right, x)

@@ -1,90 +1,67 @@
--- Laws of 000's gen: what a derivation can have come from, and that a satisfied formula satisfies one of its generators (000: gen_sat).
-use Prim.Native.Nat.{ℕ}
-use mathlib.Core.Path.{_≡_, refl, sym, ap, _∙_}
-use mathlib.Core.Logic.{_⊎_, inl, inr, ⊎-elim, _≢_}
-use mathlib.Core.Bool.{true, false}
-use mathlib.Core.List.{List, [], _∷_, _++_, map}
-use Rattle.calculus.specs.Sets.{Any, In, here}
-use Rattle.calculus.specs.Sets.Laws.{in-one, in-left, in-right, in-map}
-use Rattle.calculus.specs.Formula.{var, con, Fmla, truth, rel, eq, neg, conj, disj, exists, fv, fv-terms}
-use Rattle.calculus.specs.Satisfaction.{Pool, Database, Env, bind, Sat}
-use Rattle.calculus.specs.Satisfaction.Laws.{bind-cases, sat-cong}
-use Rattle.calculus.specs.Propagation.{exists-if-free, cp}
-use Rattle.calculus.specs.Propagation.Laws.{cp-sat, exists-sat}
-use Rattle.calculus.specs.Substitution.{subst-for}
-use Rattle.calculus.specs.Substitution.Laws.{subst-sat}
-use Rattle.calculus.specs.Generation.{ap-rel, ap-eq, GenBy, gen-false, gen-atom, gen-neg-neg, gen-neg-disj, gen-neg-conj, gen-disj, gen-conj-left, gen-conj-right, gen-conj-eq, gen-conj-eq′, gen-exists, Generated}
-use Rattle.calculus.specs.Evaluation.Laws.{sat-decided}
+-- 000's gen beside document 02's: whatever 000 generates is generated, by the same set; and a set that 000 doesn't allow needs an and with an equality of
+-- two different variables on its left.
+use Prim.Native.Nat.{ℕ, _+_}
+use mathlib.Core.Path.{ap, subst⁻¹}
+use mathlib.Core.Logic.{⊎-elim}
+use mathlib.Core.List.{List, [], _∷_, _++_}
+use Rattle.calculus.specs.Sets.{Any, In}
+use Rattle.calculus.specs.Sets.Laws.{in-one, in-append}
+use Rattle.calculus.specs.Formula.{Fmla, truth, rel, eq, neg, conj, disj, exists, size, node, nodes}
+use Rattle.calculus.specs.Formula.Laws.{formula-of}
+use Rattle.calculus.specs.Satisfaction.{Pool, Database, Env, Sat}
+use Rattle.calculus.specs.Generation.{GenBy, gen-false, gen-atom, gen-neg-neg, gen-neg-disj, gen-neg-conj, gen-disj, gen-conj-left, gen-conj-right, gen-conj-eq, gen-conj-eq′, gen-exists, Generated}
+use Rattle.calculus.specs.Ranging.{RangedBy, ranged-false, ranged-atom, ranged-neg-neg, ranged-neg-disj, ranged-neg-conj, ranged-disj, ranged-conj-left, ranged-conj-right, ranged-conj-eq, ranged-conj-eq′, ranged-exists, ranged-eq-conj, Ranged, NoneOnLeft}
+use Rattle.calculus.specs.Ranging.Laws.{equates-var-eq, ranged-sat}
 
--- ---- inversion
+-- Whatever 000 generates is generated, by the same set: at every node, plain or, as the not of it, denied.
+pub gen-ranged : {x : ℕ} {φ : Fmla} {G : List Fmla} → GenBy x φ G → RangedBy x φ G
+gen-ranged gen-false = ranged-false
+gen-ranged (gen-atom a i) = ranged-atom a i
+gen-ranged (gen-neg-neg d) = ranged-neg-neg (gen-ranged d)
+gen-ranged (gen-neg-disj d) = ranged-neg-disj (gen-ranged d)
+gen-ranged (gen-neg-conj d) = ranged-neg-conj (gen-ranged d)
+gen-ranged (gen-disj d e) = ranged-disj (gen-ranged d) (gen-ranged e)
+gen-ranged (gen-conj-left d) = ranged-conj-left (gen-ranged d)
+gen-ranged (gen-conj-right d) = ranged-conj-right (gen-ranged d)
+gen-ranged (gen-conj-eq d) = ranged-conj-eq (gen-ranged d)
+gen-ranged (gen-conj-eq′ d) = ranged-conj-eq′ (gen-ranged d)
+gen-ranged (gen-exists n d) = ranged-exists n (gen-ranged d)
 
--- ψ equates x with y.
-abbrev pub Equates : Fmla → ℕ → ℕ → Type 0
-Equates ψ x y = (ψ ≡ eq x (var y)) ⊎ (ψ ≡ eq y (var x))
+pub generated-ranged : {x : ℕ} {φ : Fmla} → Generated x φ → Ranged x φ
+generated-ranged g = (g .0, gen-ranged (g .1))
 
--- What a derivation of gen x φ G can have come from, by the shape of φ.
-abbrev pub Origin : ℕ → Fmla → List Fmla → Type 0
-Origin x (truth true) G = ⊥
-Origin x (truth false) G = G ≡ []
-Origin x (rel r ts) G = In x (fv-terms ts) × (G ≡ rel r ts ∷ [])
-Origin x (eq y (var z)) G = ⊥
-Origin x (eq y (con p)) G = (x ≡ y) × (G ≡ eq y (con p) ∷ [])
-Origin x (neg (truth b)) G = ⊥
-Origin x (neg (rel r ts)) G = ⊥
-Origin x (neg (eq y t)) G = ⊥
-Origin x (neg (neg φ)) G = GenBy x φ G
-Origin x (neg (conj φ ψ)) G = GenBy x (disj (neg φ) (neg ψ)) G
-Origin x (neg (disj φ ψ)) G = GenBy x (conj (neg φ) (neg ψ)) G
-Origin x (neg (exists z φ)) G = ⊥
-Origin x (conj φ ψ) G = GenBy x φ G ⊎ (GenBy x ψ G ⊎ ((y : ℕ) × Equates ψ x y × (g : Generated y φ) × (G ≡ map (λ χ. cp (subst-for χ y x)) (g .0))))
-Origin x (disj φ ψ) G = (g : Generated x φ) × (h : Generated x ψ) × (G ≡ g .0 ++ h .0)
-Origin x (exists y φ) G = (x ≢ y) × (g : Generated x φ) × (G ≡ map (exists-if-free y) (g .0))
+-- 000: gen_sat.
+pub gen-sat : (pool : Pool) (D : Database) {x : ℕ} {φ : Fmla} {G : List Fmla} → GenBy x φ G → (σ : Env) → Sat pool D φ σ → Any (λ χ. Sat pool D χ σ) G
+gen-sat pool D d = ranged-sat pool D (gen-ranged d)
 
-pub origin : {x : ℕ} {φ : Fmla} {G : List Fmla} → GenBy x φ G → Origin x φ G
-origin gen-false = refl
-origin (gen-atom ap-rel i) = (i, refl)
-origin (gen-atom ap-eq i) = (in-one i, refl)
-origin (gen-neg-neg d) = d
-origin (gen-neg-disj d) = d
-origin (gen-neg-conj d) = d
-origin (gen-disj {G = G} {H = H} d e) = ((G, d), (H, e), refl)
-origin (gen-conj-left d) = inl d
-origin (gen-conj-right d) = inr (inl d)
-origin (gen-conj-eq {y = y} {G = G} d) = inr (inr (y, inl refl, (G, d), refl))
-origin (gen-conj-eq′ {y = y} {G = G} d) = inr (inr (y, inr refl, (G, d), refl))
-origin (gen-exists {G = G} n d) = (n, (G, d), refl)
+-- ---- what the one rule more adds
 
--- ---- a satisfied formula satisfies a generator
+-- Where no and has an equality of two different variables on its left, the sets are those that 000 allows.
+pub ranged-gen : {x : ℕ} {φ : Fmla} {G : List Fmla} → NoneOnLeft φ → RangedBy x φ G → GenBy x φ G
+ranged-gen n ranged-false = gen-false
+ranged-gen n (ranged-atom a i) = gen-atom a i
+ranged-gen n (ranged-neg-neg d) = gen-neg-neg (ranged-gen n d)
+ranged-gen n (ranged-neg-disj {φ = φ} d) = gen-neg-disj (ranged-gen (λ x y m. equates-var-eq (neg φ) x y, n .0, n .1) d)
+ranged-gen n (ranged-neg-conj d) = gen-neg-conj (ranged-gen (n .1, n .2) d)
+ranged-gen n (ranged-disj d e) = gen-disj (ranged-gen (n .0) d) (ranged-gen (n .1) e)
+ranged-gen n (ranged-conj-left d) = gen-conj-left (ranged-gen (n .1) d)
+ranged-gen n (ranged-conj-right d) = gen-conj-right (ranged-gen (n .2) d)
+ranged-gen n (ranged-conj-eq d) = gen-conj-eq (ranged-gen (n .1) d)
+ranged-gen n (ranged-conj-eq′ d) = gen-conj-eq′ (ranged-gen (n .1) d)
+ranged-gen n (ranged-exists m d) = gen-exists m (ranged-gen n d)
+ranged-gen n (ranged-eq-conj {x} {y} m q d) = absurd (n .0 x y m q)
 
-module _ (pool : Pool) (D : Database) where
-  -- A denied conjunction has a denied side.
-  pub sat-neg-conj : (φ ψ : Fmla) (σ : Env) → Sat pool D (neg (conj φ ψ)) σ → Sat pool D (disj (neg φ) (neg ψ)) σ
-  sat-neg-conj φ ψ σ n = ⊎-elim (λ s. inr (λ t. n (s, t))) (λ m. inl m) (sat-decided pool D φ σ)
+none-root : (φ : Fmla) (n p : ℕ) (χ : Fmla) → NoneOnLeft φ → In (node p χ) (node n φ ∷ []) → NoneOnLeft χ
+none-root φ n p χ m i = subst⁻¹ NoneOnLeft (ap formula-of (in-one i)) m
 
-  pub sat-neg-neg : (φ : Fmla) (σ : Env) → Sat pool D (neg (neg φ)) σ → Sat pool D φ σ
-  sat-neg-neg φ σ n = ⊎-elim (λ s. s) (λ m. absurd (n m)) (sat-decided pool D φ σ)
-
-  -- Of a satisfied formula, with σ x ≡ σ y, the same with x for y is satisfied.
-  moved-sat : (χ : Fmla) (x y : ℕ) (σ : Env) → σ x ≡ σ y → Sat pool D χ σ → Sat pool D (cp (subst-for χ y x)) σ
-  moved-sat χ x y σ e s = cp-sat pool D (subst-for χ y x) σ .1 (subst-sat pool D χ y x σ .1 (sat-cong pool D χ σ (bind y (σ x) σ) same s))
-    where
-      same : (u : ℕ) → In u (fv χ) → σ u ≡ bind y (σ x) σ u
-      same u i = bind-cases (λ v. σ u ≡ v) y (σ x) σ u (λ f. ap σ f ∙ sym e) (λ n. refl)
-
-  image-sat : (f : Fmla → Fmla) (G : List Fmla) (σ τ : Env) → ((χ : Fmla) → Sat pool D χ σ → Sat pool D (f χ) τ) → Any (λ χ. Sat pool D χ σ) G → Any (λ χ. Sat pool D χ τ) (map f G)
-  image-sat f G σ τ h s = (f (s .0), in-map f (s .1), h (s .0) (s .2))
-
-  -- 000: gen_sat.
-  pub gen-sat : {x : ℕ} {φ : Fmla} {G : List Fmla} → GenBy x φ G → (σ : Env) → Sat pool D φ σ → Any (λ χ. Sat pool D χ σ) G
-  gen-sat gen-false σ s = absurd s
-  gen-sat (gen-atom {φ = φ} a i) σ s = (φ, here refl, s)
-  gen-sat (gen-neg-neg {φ = φ} d) σ s = gen-sat d σ (sat-neg-neg φ σ s)
-  gen-sat (gen-neg-disj d) σ s = gen-sat d σ (λ t. s (inl t), λ t. s (inr t))
-  gen-sat (gen-neg-conj {φ = φ} {ψ = ψ} d) σ s = gen-sat d σ (sat-neg-conj φ ψ σ s)
-  gen-sat (gen-disj {G = G} {H = H} d e) σ (inl s) = let r = gen-sat d σ s in (r .0, in-left H (r .1), r .2)
-  gen-sat (gen-disj {G = G} {H = H} d e) σ (inr s) = let r = gen-sat e σ s in (r .0, in-right G (r .1), r .2)
-  gen-sat (gen-conj-left d) σ s = gen-sat d σ (s .0)
-  gen-sat (gen-conj-right d) σ s = gen-sat d σ (s .1)
-  gen-sat (gen-conj-eq {x} {y} {G = G} d) σ s = image-sat (λ χ. cp (subst-for χ y x)) G σ σ (λ χ. moved-sat χ x y σ (s .1)) (gen-sat d σ (s .0))
-  gen-sat (gen-conj-eq′ {x} {y} {G = G} d) σ s = image-sat (λ χ. cp (subst-for χ y x)) G σ σ (λ χ. moved-sat χ x y σ (sym (s .1))) (gen-sat d σ (s .0))
-  gen-sat (gen-exists {y = y} {G = G} n d) σ s = image-sat (exists-if-free y) G (bind y (s .0) σ) σ (λ χ t. exists-sat pool D y χ σ .1 (s .0, t)) (gen-sat d (bind y (s .0) σ) (s .1))
+-- It holds of every node of such a formula.
+pub none-below : (φ : Fmla) (n p : ℕ) (χ : Fmla) → NoneOnLeft φ → In (node p χ) (nodes φ n) → NoneOnLeft χ
+none-below (truth b) n p χ m i = none-root (truth b) n p χ m i
+none-below (rel r ts) n p χ m i = none-root (rel r ts) n p χ m i
+none-below (eq x t) n p χ m i = none-root (eq x t) n p χ m i
+none-below (neg φ) n p χ m i = ⊎-elim (none-below φ n p χ m) (none-root (neg φ) (n + size φ) p χ m) (in-append (nodes φ n) i)
+none-below (conj φ ψ) n p χ m i =
+    ⊎-elim (λ j. ⊎-elim (none-below φ n p χ (m .1)) (none-below ψ (n + size φ) p χ (m .2)) (in-append (nodes φ n) j)) (none-root (conj φ ψ) (n + (size φ + size ψ)) p χ m) (in-append (nodes φ n ++ nodes ψ (n + size φ)) i)
+none-below (disj φ ψ) n p χ m i =
+    ⊎-elim (λ j. ⊎-elim (none-below φ n p χ (m .0)) (none-below ψ (n + size φ) p χ (m .1)) (in-append (nodes φ n) j)) (none-root (disj φ ψ) (n + (size φ + size ψ)) p χ m) (in-append (nodes φ n ++ nodes ψ (n + size φ)) i)
+none-below (exists z φ) n p χ m i = ⊎-elim (none-below φ n p χ m) (none-root (exists z φ) (n + size φ) p χ m) (in-append (nodes φ n) i)

@@ -1,5 +1,5 @@
--- Document 01's generation order answers as 000 does: it finds leaves exactly where 000 allows some set of generators, and they are the
--- leaves of such a set. And a generated variable of a satisfied formula has its value from one of the leaves.
+-- The generation order answers as the rules do: it finds leaves exactly where they allow some set of generators, and they are the leaves of such a set. So it
+-- finds some wherever 000 allows a set. And a generated variable of a satisfied formula has its value from one of the leaves.
 use Prim.Native.Nat.{ℕ, _+_}
 use mathlib.Core.Path.{_≡_, refl, sym, ap, subst, subst⁻¹, _∙_}
 use mathlib.Core.Logic.{_⊎_, inl, inr, ⊎-elim, _≢_}
@@ -10,33 +10,36 @@ use lib.ListN.{length, length-append, length-map}
 use Rattle.calculus.specs.Sets.{In, here, _⊆_}
 use Rattle.calculus.specs.Sets.Laws.{in-nil, in-one, in-left, in-right, in-append, in-map, from-union, reflects-member}
 use Rattle.calculus.specs.Reflects.{Reflects, holds, fails}
-use Rattle.calculus.specs.Reflects.Laws.{reflects-eqb, reflects-map, reflects-same, decided}
+use Rattle.calculus.specs.Reflects.Laws.{reflects-false, reflects-eqb, reflects-map, reflects-same, decided}
 use Rattle.calculus.specs.Formula.{Term, var, con, Fmla, truth, rel, eq, neg, conj, disj, exists, fv, fv-term, fv-terms, size, node, nodes}
 use Rattle.calculus.specs.Formula.Laws.{formula-of, joined, left-node, right-node}
 use Rattle.calculus.specs.Satisfaction.{Pool, Database, Env, bind, value, values, Sat, known}
 use Rattle.calculus.specs.Satisfaction.Laws.{bind-other, known-record, known-constant, known-conj-left, known-conj-right}
 use Rattle.calculus.specs.Propagation.{exists-if-free, cp}
 use Rattle.calculus.specs.Substitution.{subst-for}
-use Rattle.calculus.specs.Generation.{Ap, ap-rel, ap-eq, GenBy, gen-false, gen-atom, gen-neg-neg, gen-neg-disj, gen-neg-conj, gen-disj, gen-conj-left, gen-conj-right, gen-conj-eq, gen-conj-eq′, gen-exists, Generated}
-use Rattle.calculus.specs.Generation.Laws.{Equates, origin, sat-neg-conj, sat-neg-neg}
+use Rattle.calculus.specs.Generation.{Ap, ap-rel, ap-eq, Generated}
+use Rattle.calculus.specs.Generation.Laws.{generated-ranged}
+use Rattle.calculus.specs.Ranging.{Equates, RangedBy, ranged-false, ranged-atom, ranged-neg-neg, ranged-neg-disj, ranged-neg-conj, ranged-disj, ranged-conj-left, ranged-conj-right, ranged-conj-eq, ranged-conj-eq′, ranged-exists, ranged-eq-conj, Ranged}
+use Rattle.calculus.specs.Ranging.Laws.{is-var-eq, equates-var-eq, origin, sat-neg-conj, sat-neg-neg, equates-sat}
 use Rattle.calculus.specs.Generators.{Leaves, leaf-where, first, both, equated, through, plain, denied, is-none}
-use Rattle.calculus.specs.Sources.{GenAt, at-false, at-atom, at-neg-neg, at-neg-disj-left, at-neg-disj-right, at-neg-conj, at-disj, at-conj-left, at-conj-right, at-conj-eq, at-conj-eq′, at-exists, LeavesRight, generated-by, not-generated, AtNode, Source, SourceAmong, HasLeaves}
+use Rattle.calculus.specs.Sources.{RangedAt, at-false, at-atom, at-neg-neg, at-neg-disj-left, at-neg-disj-right, at-neg-conj, at-disj, at-conj-left, at-conj-right, at-conj-eq, at-conj-eq′, at-exists, at-eq-conj, LeavesRight, generated-by, not-generated, AtNode, Source, SourceAmong, HasLeaves}
 
--- ---- the 000 half of GenAt is 000's gen
+-- ---- without the leaves it is generation by the rules
 
-pub gen-at-gen : {x n : ℕ} {φ : Fmla} {G : List Fmla} {L : List ℕ} → GenAt x φ n G L → GenBy x φ G
-gen-at-gen at-false = gen-false
-gen-at-gen (at-atom a i) = gen-atom a i
-gen-at-gen (at-neg-neg d) = gen-neg-neg (gen-at-gen d)
-gen-at-gen (at-neg-disj-left d) = gen-neg-disj (gen-conj-left (gen-at-gen d))
-gen-at-gen (at-neg-disj-right d) = gen-neg-disj (gen-conj-right (gen-at-gen d))
-gen-at-gen (at-neg-conj d e) = gen-neg-conj (gen-disj (gen-at-gen d) (gen-at-gen e))
-gen-at-gen (at-disj d e) = gen-disj (gen-at-gen d) (gen-at-gen e)
-gen-at-gen (at-conj-left d) = gen-conj-left (gen-at-gen d)
-gen-at-gen (at-conj-right d) = gen-conj-right (gen-at-gen d)
-gen-at-gen (at-conj-eq d) = gen-conj-eq (gen-at-gen d)
-gen-at-gen (at-conj-eq′ d) = gen-conj-eq′ (gen-at-gen d)
-gen-at-gen (at-exists n d) = gen-exists n (gen-at-gen d)
+pub ranged-at-ranged : {x n : ℕ} {φ : Fmla} {G : List Fmla} {L : List ℕ} → RangedAt x φ n G L → RangedBy x φ G
+ranged-at-ranged at-false = ranged-false
+ranged-at-ranged (at-atom a i) = ranged-atom a i
+ranged-at-ranged (at-neg-neg d) = ranged-neg-neg (ranged-at-ranged d)
+ranged-at-ranged (at-neg-disj-left d) = ranged-neg-disj (ranged-conj-left (ranged-at-ranged d))
+ranged-at-ranged (at-neg-disj-right d) = ranged-neg-disj (ranged-conj-right (ranged-at-ranged d))
+ranged-at-ranged (at-neg-conj d e) = ranged-neg-conj (ranged-disj (ranged-at-ranged d) (ranged-at-ranged e))
+ranged-at-ranged (at-disj d e) = ranged-disj (ranged-at-ranged d) (ranged-at-ranged e)
+ranged-at-ranged (at-conj-left d) = ranged-conj-left (ranged-at-ranged d)
+ranged-at-ranged (at-conj-right d) = ranged-conj-right (ranged-at-ranged d)
+ranged-at-ranged (at-conj-eq d) = ranged-conj-eq (ranged-at-ranged d)
+ranged-at-ranged (at-conj-eq′ d) = ranged-conj-eq′ (ranged-at-ranged d)
+ranged-at-ranged (at-exists n d) = ranged-exists n (ranged-at-ranged d)
+ranged-at-ranged (at-eq-conj n q d) = ranged-eq-conj n q (ranged-at-ranged d)
 
 -- ---- equalities
 
@@ -80,21 +83,6 @@ data EquatedView (ψ : Fmla) (x : ℕ) : Option ℕ → Type 0 where
   equates : {y : ℕ} → x ≢ y → Equates ψ x y → EquatedView ψ x (some y)
   equates-none : ((y : ℕ) → x ≢ y → ¬ Equates ψ x y) → EquatedView ψ x none
 
-abbrev is-var-eq : Fmla → Type 0
-is-var-eq (truth b) = ⊥
-is-var-eq (rel r ts) = ⊥
-is-var-eq (eq x (var y)) = Unit {0}
-is-var-eq (eq x (con p)) = ⊥
-is-var-eq (neg φ) = ⊥
-is-var-eq (conj φ ψ) = ⊥
-is-var-eq (disj φ ψ) = ⊥
-is-var-eq (exists z φ) = ⊥
-
--- A formula that is no equality of variables equates nothing.
-equates-var-eq : (ψ : Fmla) (x y : ℕ) → Equates ψ x y → is-var-eq ψ
-equates-var-eq ψ x y (inl e) = subst⁻¹ is-var-eq e tt
-equates-var-eq ψ x y (inr e) = subst⁻¹ is-var-eq e tt
-
 no-equality : (ψ : Fmla) (x : ℕ) → ¬ is-var-eq ψ → EquatedView ψ x none
 no-equality ψ x n = equates-none (λ y m e. n (equates-var-eq ψ x y e))
 
@@ -124,78 +112,86 @@ equated-view (eq y (var z)) x = go (reflects-eqb y z) (reflects-eqb x y) (reflec
     go (fails n) (fails m) (holds e) = equates m (inr (ap (λ u. eq y (var u)) (sym e)))
     go (fails n) (fails m) (fails k) = equates-none (λ u l q. ⊎-elim (λ s. m (sym (s .0))) (λ s. k (sym (s .1))) (sides u q))
 
--- ---- every set of 000's has its leaves
+-- ---- every set has its leaves
 
 -- By equality, whichever side x stands on.
-at-equates : {x y n : ℕ} {φ ψ : Fmla} {G : List Fmla} {L : List ℕ} → Equates ψ x y → GenAt y φ n G L → GenAt x (conj φ ψ) n (map (λ χ. cp (subst-for χ y x)) G) L
-at-equates {x} {y} {n} {φ} {ψ} {G} {L} (inl e) d = subst⁻¹ (λ u. GenAt x (conj φ u) n (map (λ χ. cp (subst-for χ y x)) G) L) e (at-conj-eq d)
-at-equates {x} {y} {n} {φ} {ψ} {G} {L} (inr e) d = subst⁻¹ (λ u. GenAt x (conj φ u) n (map (λ χ. cp (subst-for χ y x)) G) L) e (at-conj-eq′ d)
+at-equates : {x y n : ℕ} {φ ψ : Fmla} {G : List Fmla} {L : List ℕ} → Equates ψ x y → RangedAt y φ n G L → RangedAt x (conj φ ψ) n (map (λ χ. cp (subst-for χ y x)) G) L
+at-equates {x} {y} {n} {φ} {ψ} {G} {L} (inl e) d = subst⁻¹ (λ u. RangedAt x (conj φ u) n (map (λ χ. cp (subst-for χ y x)) G) L) e (at-conj-eq d)
+at-equates {x} {y} {n} {φ} {ψ} {G} {L} (inr e) d = subst⁻¹ (λ u. RangedAt x (conj φ u) n (map (λ χ. cp (subst-for χ y x)) G) L) e (at-conj-eq′ d)
 
 mutual
-  pub gen-gen-at : (φ : Fmla) (n x : ℕ) (G : List Fmla) → GenBy x φ G → HasLeaves x φ n G
-  gen-gen-at (truth true) n x G d = absurd (origin d)
-  gen-gen-at (truth false) n x G d = subst⁻¹ (HasLeaves x (truth false) n) (origin d) ([], at-false)
-  gen-gen-at (rel r ts) n x G d = subst⁻¹ (HasLeaves x (rel r ts) n) (origin d .1) (n ∷ [], at-atom ap-rel (origin d .0))
-  gen-gen-at (eq y (var z)) n x G d = absurd (origin d)
-  gen-gen-at (eq y (con p)) n x G d = subst⁻¹ (HasLeaves x (eq y (con p)) n) (origin d .1) (n ∷ [], at-atom ap-eq (here (origin d .0)))
-  gen-gen-at (neg φ) n x G d = gen-gen-at-neg φ n x G d
-  gen-gen-at (conj φ ψ) n x G d =
-      ⊎-elim (λ e. let r = gen-gen-at φ n x G e in (r .0, at-conj-left (r .1)))
-      (⊎-elim (λ e. let r = gen-gen-at ψ (n + size φ) x G e in (r .0, at-conj-right (r .1)))
-      (λ t. let r = gen-gen-at φ n (t .0) (t .2 .0) (t .2 .1) in subst⁻¹ (HasLeaves x (conj φ ψ) n) (t .3) (r .0, at-equates (t .1) (r .1))))
+  pub ranged-ranged-at : (φ : Fmla) (n x : ℕ) (G : List Fmla) → RangedBy x φ G → HasLeaves x φ n G
+  ranged-ranged-at (truth true) n x G d = absurd (origin d)
+  ranged-ranged-at (truth false) n x G d = subst⁻¹ (HasLeaves x (truth false) n) (origin d) ([], at-false)
+  ranged-ranged-at (rel r ts) n x G d = subst⁻¹ (HasLeaves x (rel r ts) n) (origin d .1) (n ∷ [], at-atom ap-rel (origin d .0))
+  ranged-ranged-at (eq y (var z)) n x G d = absurd (origin d)
+  ranged-ranged-at (eq y (con p)) n x G d = subst⁻¹ (HasLeaves x (eq y (con p)) n) (origin d .1) (n ∷ [], at-atom ap-eq (here (origin d .0)))
+  ranged-ranged-at (neg φ) n x G d = ranged-ranged-at-neg φ n x G d
+  ranged-ranged-at (conj φ ψ) n x G d =
+      ⊎-elim (λ e. let r = ranged-ranged-at φ n x G e in (r .0, at-conj-left (r .1)))
+      (⊎-elim (λ e. let r = ranged-ranged-at ψ (n + size φ) x G e in (r .0, at-conj-right (r .1)))
+      (⊎-elim (λ t. let r = ranged-ranged-at φ n (t .0) (t .2 .0) (t .2 .1) in subst⁻¹ (HasLeaves x (conj φ ψ) n) (t .3) (r .0, at-equates (t .1) (r .1)))
+      (λ t. let r = ranged-ranged-at ψ (n + size φ) (t .0) (t .3 .0) (t .3 .1) in subst⁻¹ (HasLeaves x (conj φ ψ) n) (t .4) (r .0, at-eq-conj (t .1) (t .2) (r .1)))))
       (origin d)
-  gen-gen-at (disj φ ψ) n x G d =
+  ranged-ranged-at (disj φ ψ) n x G d =
       let o = origin d in
-      let l = gen-gen-at φ n x (o .0 .0) (o .0 .1) in
-      let r = gen-gen-at ψ (n + size φ) x (o .1 .0) (o .1 .1) in
+      let l = ranged-ranged-at φ n x (o .0 .0) (o .0 .1) in
+      let r = ranged-ranged-at ψ (n + size φ) x (o .1 .0) (o .1 .1) in
       subst⁻¹ (HasLeaves x (disj φ ψ) n) (o .2) (l .0 ++ r .0, at-disj (l .1) (r .1))
-  gen-gen-at (exists z φ) n x G d =
+  ranged-ranged-at (exists z φ) n x G d =
       let o = origin d in
-      let r = gen-gen-at φ n x (o .1 .0) (o .1 .1) in
+      let r = ranged-ranged-at φ n x (o .1 .0) (o .1 .1) in
       subst⁻¹ (HasLeaves x (exists z φ) n) (o .2) (r .0, at-exists (o .0) (r .1))
 
-  pub gen-gen-at-neg : (φ : Fmla) (n x : ℕ) (G : List Fmla) → GenBy x (neg φ) G → HasLeaves x (neg φ) n G
-  gen-gen-at-neg (truth b) n x G d = absurd (origin d)
-  gen-gen-at-neg (rel r ts) n x G d = absurd (origin d)
-  gen-gen-at-neg (eq y t) n x G d = absurd (origin d)
-  gen-gen-at-neg (neg φ) n x G d = let r = gen-gen-at φ n x G (origin d) in (r .0, at-neg-neg (r .1))
-  gen-gen-at-neg (conj φ ψ) n x G d =
+  pub ranged-ranged-at-neg : (φ : Fmla) (n x : ℕ) (G : List Fmla) → RangedBy x (neg φ) G → HasLeaves x (neg φ) n G
+  ranged-ranged-at-neg (truth b) n x G d = absurd (origin d)
+  ranged-ranged-at-neg (rel r ts) n x G d = absurd (origin d)
+  ranged-ranged-at-neg (eq y t) n x G d = absurd (origin d)
+  ranged-ranged-at-neg (neg φ) n x G d = let r = ranged-ranged-at φ n x G (origin d) in (r .0, at-neg-neg (r .1))
+  ranged-ranged-at-neg (conj φ ψ) n x G d =
       let o = origin (origin d) in
-      let l = gen-gen-at-neg φ n x (o .0 .0) (o .0 .1) in
-      let r = gen-gen-at-neg ψ (n + size φ) x (o .1 .0) (o .1 .1) in
+      let l = ranged-ranged-at-neg φ n x (o .0 .0) (o .0 .1) in
+      let r = ranged-ranged-at-neg ψ (n + size φ) x (o .1 .0) (o .1 .1) in
       subst⁻¹ (HasLeaves x (neg (conj φ ψ)) n) (o .2) (l .0 ++ r .0, at-neg-conj (l .1) (r .1))
-  gen-gen-at-neg (disj φ ψ) n x G d =
-      ⊎-elim (λ e. let r = gen-gen-at-neg φ n x G e in (r .0, at-neg-disj-left (r .1)))
-      (⊎-elim (λ e. let r = gen-gen-at-neg ψ (n + size φ) x G e in (r .0, at-neg-disj-right (r .1)))
-      (λ t. absurd (equates-var-eq (neg ψ) x (t .0) (t .1))))
+  ranged-ranged-at-neg (disj φ ψ) n x G d =
+      ⊎-elim (λ e. let r = ranged-ranged-at-neg φ n x G e in (r .0, at-neg-disj-left (r .1)))
+      (⊎-elim (λ e. let r = ranged-ranged-at-neg ψ (n + size φ) x G e in (r .0, at-neg-disj-right (r .1)))
+      (⊎-elim (λ t. absurd (equates-var-eq (neg ψ) x (t .0) (t .1))) (λ t. absurd (equates-var-eq (neg φ) x (t .0) (t .2)))))
       (origin (origin d))
-  gen-gen-at-neg (exists z φ) n x G d = absurd (origin d)
+  ranged-ranged-at-neg (exists z φ) n x G d = absurd (origin d)
 
 -- ---- the order's answers are right
 
-leaf-right : {x n : ℕ} {φ : Fmla} {b : Bool} → Ap φ → (Generated x φ → In x (fv φ)) → Reflects (In x (fv φ)) b → LeavesRight x φ n (leaf-where b n)
+leaf-right : {x n : ℕ} {φ : Fmla} {b : Bool} → Ap φ → (Ranged x φ → In x (fv φ)) → Reflects (In x (fv φ)) b → LeavesRight x φ n (leaf-where b n)
 leaf-right {φ = φ} a f (holds i) = generated-by (φ ∷ []) (at-atom a i)
 leaf-right a f (fails m) = not-generated (λ g. m (f g))
 
--- By equality: as φ generates the other variable.
-through-right : {x n : ℕ} {φ ψ : Fmla} {o : Option ℕ} (f : ℕ → Leaves) → EquatedView ψ x o → ((y : ℕ) → LeavesRight y φ n (f y)) → ¬ Generated x φ → ¬ Generated x ψ → LeavesRight x (conj φ ψ) n (through o f)
-through-right {x} {n} {φ} {ψ} f (equates {y} m q) a p r = go (a y)
-  where
-    none-else : ¬ Generated y φ → ¬ Generated x (conj φ ψ)
-    none-else k g = ⊎-elim (λ d. p (g .0, d)) (⊎-elim (λ d. r (g .0, d)) (λ t. k (subst (λ u. Generated u φ) (sym (equates-one m q (t .1))) (t .2)))) (origin (g .1))
+-- The answers by an equality φ, as ψ, numbered from n, generates the other variable; for an x that ψ doesn't generate itself.
+data Through (φ ψ : Fmla) (n x : ℕ) : Leaves → Type 0 where
+  reached : {y : ℕ} {G : List Fmla} {L : List ℕ} → x ≢ y → Equates φ x y → RangedAt y ψ n G L → Through φ ψ n x (some L)
+  not-reached : ((y : ℕ) → Equates φ x y → ¬ Ranged y ψ) → Through φ ψ n x none
 
-    go : {l : Leaves} → LeavesRight y φ n l → LeavesRight x (conj φ ψ) n l
-    go (generated-by G d) = generated-by (map (λ χ. cp (subst-for χ y x)) G) (at-equates q d)
-    go (not-generated k) = not-generated (none-else k)
-through-right {x} {n} {φ} {ψ} f (equates-none m) a p r = not-generated (λ g. ⊎-elim (λ d. p (g .0, d)) (⊎-elim (λ d. r (g .0, d)) (λ t. other (t .0) (t .1) (t .2))) (origin (g .1)))
+through-view : {x n : ℕ} {φ ψ : Fmla} {o : Option ℕ} (f : ℕ → Leaves) → EquatedView φ x o → ((y : ℕ) → LeavesRight y ψ n (f y)) → ¬ Ranged x ψ → Through φ ψ n x (through o f)
+through-view {x} {n} {φ} {ψ} f (equates {y} m q) a p = go (a y)
   where
-    other : (y : ℕ) → Equates ψ x y → ¬ Generated y φ
-    other y q g = ⊎-elim (λ e. p (subst⁻¹ (λ u. Generated u φ) e g)) (λ k. m y k q) (decided (reflects-eqb x y))
+    go : {l : Leaves} → LeavesRight y ψ n l → Through φ ψ n x l
+    go (generated-by G d) = reached m q d
+    go (not-generated k) = not-reached (λ z r g. k (subst⁻¹ (λ u. Ranged u ψ) (equates-one m q r) g))
+through-view {x} {n} {φ} {ψ} f (equates-none m) a p = not-reached other
+  where
+    other : (y : ℕ) → Equates φ x y → ¬ Ranged y ψ
+    other y q g = ⊎-elim (λ e. p (subst⁻¹ (λ u. Ranged u ψ) e g)) (λ k. m y k q) (decided (reflects-eqb x y))
 
-conj-right : {x n : ℕ} {φ ψ : Fmla} {a b c : Leaves} → LeavesRight x φ n a → LeavesRight x ψ (n + size φ) b → (¬ Generated x φ → ¬ Generated x ψ → LeavesRight x (conj φ ψ) n c) → LeavesRight x (conj φ ψ) n (first a (first b c))
-conj-right (generated-by G d) r k = generated-by G (at-conj-left d)
-conj-right (not-generated p) (generated-by G d) k = generated-by G (at-conj-right d)
-conj-right (not-generated p) (not-generated q) k = k p q
+conj-right : {x n : ℕ} {φ ψ : Fmla} {a b c d : Leaves} → LeavesRight x φ n a → LeavesRight x ψ (n + size φ) b → (¬ Ranged x φ → Through ψ φ n x c) → (¬ Ranged x ψ → Through φ ψ (n + size φ) x d) → LeavesRight x (conj φ ψ) n (first a (first b (first c d)))
+conj-right (generated-by G d) r k l = generated-by G (at-conj-left d)
+conj-right (not-generated p) (generated-by G d) k l = generated-by G (at-conj-right d)
+conj-right {x} {n} {φ} {ψ} (not-generated p) (not-generated q) k l = go (k p) (l q)
+  where
+    go : {c d : Leaves} → Through ψ φ n x c → Through φ ψ (n + size φ) x d → LeavesRight x (conj φ ψ) n (first c d)
+    go (reached {y} {G} m e r) u = generated-by (map (λ χ. cp (subst-for χ y x)) G) (at-equates e r)
+    go (not-reached t) (reached {y} {G} m e r) = generated-by (map (λ χ. cp (subst-for χ y x)) G) (at-eq-conj m e r)
+    go (not-reached t) (not-reached u) =
+        not-generated (λ g. ⊎-elim (λ d. p (g .0, d)) (⊎-elim (λ d. q (g .0, d)) (⊎-elim (λ o. t (o .0) (o .1) (o .2)) (λ o. u (o .0) (o .2) (o .3)))) (origin (g .1)))
 
 disj-right : {x n : ℕ} {φ ψ : Fmla} {a b : Leaves} → LeavesRight x φ n a → LeavesRight x ψ (n + size φ) b → LeavesRight x (disj φ ψ) n (both a b)
 disj-right (generated-by G d) (generated-by H e) = generated-by (G ++ H) (at-disj d e)
@@ -213,7 +209,7 @@ neg-disj-right : {x n : ℕ} {φ ψ : Fmla} {a b : Leaves} → LeavesRight x (ne
 neg-disj-right (generated-by G d) r = generated-by G (at-neg-disj-left d)
 neg-disj-right (not-generated p) (generated-by G d) = generated-by G (at-neg-disj-right d)
 neg-disj-right {x} {φ = φ} {ψ} (not-generated p) (not-generated q) =
-    not-generated (λ g. ⊎-elim (λ d. p (g .0, d)) (⊎-elim (λ d. q (g .0, d)) (λ t. equates-var-eq (neg ψ) x (t .0) (t .1))) (origin (origin (g .1))))
+    not-generated (λ g. ⊎-elim (λ d. p (g .0, d)) (⊎-elim (λ d. q (g .0, d)) (⊎-elim (λ t. equates-var-eq (neg ψ) x (t .0) (t .1)) (λ t. equates-var-eq (neg φ) x (t .0) (t .2)))) (origin (origin (g .1))))
 
 neg-neg-right : {x n : ℕ} {φ : Fmla} {a : Leaves} → LeavesRight x φ n a → LeavesRight x (neg (neg φ)) n a
 neg-neg-right (generated-by G d) = generated-by G (at-neg-neg d)
@@ -224,7 +220,7 @@ exists-right (holds e) r = not-generated (λ g. origin (g .1) .0 e)
 exists-right {z = z} (fails m) (generated-by G d) = generated-by (map (exists-if-free z) G) (at-exists m d)
 exists-right (fails m) (not-generated p) = not-generated (λ g. p (origin (g .1) .1))
 
--- Document 01's order is right at every node, judged plainly or as denied.
+-- The order is right at every node, judged plainly or as denied.
 mutual
   pub plain-right : (φ : Fmla) (n x : ℕ) → LeavesRight x φ n (plain φ n x)
   plain-right (truth true) n x = not-generated (λ g. origin (g .1))
@@ -233,7 +229,10 @@ mutual
   plain-right (eq y (var z)) n x = not-generated (λ g. origin (g .1))
   plain-right (eq y (con p)) n x = leaf-right ap-eq (λ g. here (origin (g .1) .0)) (reflects-map here in-one (reflects-eqb x y))
   plain-right (neg φ) n x = denied-right φ n x
-  plain-right (conj φ ψ) n x = conj-right (plain-right φ n x) (plain-right ψ (n + size φ) x) (through-right (λ y. plain φ n y) (equated-view ψ x) (λ y. plain-right φ n y))
+  plain-right (conj φ ψ) n x =
+      conj-right (plain-right φ n x) (plain-right ψ (n + size φ) x)
+      (through-view (λ y. plain φ n y) (equated-view ψ x) (λ y. plain-right φ n y))
+      (through-view (λ y. plain ψ (n + size φ) y) (equated-view φ x) (λ y. plain-right ψ (n + size φ) y))
   plain-right (disj φ ψ) n x = disj-right (plain-right φ n x) (plain-right ψ (n + size φ) x)
   plain-right (exists z φ) n x = exists-right (reflects-eqb x z) (plain-right φ n x)
 
@@ -246,23 +245,42 @@ mutual
   denied-right (disj φ ψ) n x = neg-disj-right (denied-right φ n x) (denied-right ψ (n + size φ) x)
   denied-right (exists z φ) n x = not-generated (λ g. origin (g .1))
 
--- "none" is answered exactly where 000 allows no set.
-pub reflects-none : (φ : Fmla) (n x : ℕ) → Reflects (¬ Generated x φ) (is-none (plain φ n x))
+-- "none" is answered exactly where the rules allow no set.
+pub reflects-none : (φ : Fmla) (n x : ℕ) → Reflects (¬ Ranged x φ) (is-none (plain φ n x))
 reflects-none φ n x = go (plain-right φ n x)
   where
-    go : {l : Leaves} → LeavesRight x φ n l → Reflects (¬ Generated x φ) (is-none l)
-    go (generated-by G d) = fails (λ m. m (G, gen-at-gen d))
+    go : {l : Leaves} → LeavesRight x φ n l → Reflects (¬ Ranged x φ) (is-none l)
+    go (generated-by G d) = fails (λ m. m (G, ranged-at-ranged d))
     go (not-generated p) = holds p
+
+-- What 000 generates, the order finds: at every node, plainly and as denied.
+pub plain-finds : (φ : Fmla) (n x : ℕ) → Generated x φ → is-none (plain φ n x) ≡ false
+plain-finds φ n x g = reflects-false (reflects-none φ n x) (λ m. m (generated-ranged g))
+
+pub denied-finds : (φ : Fmla) (n x : ℕ) → Generated x (neg φ) → is-none (denied φ n x) ≡ false
+denied-finds φ n x g = plain-finds (neg φ) n x g
+
+-- Where the left child of an and equates x with no other variable, the order is document 01's.
+first-nothing : (a : Leaves) → first a none ≡ a
+first-nothing none = refl
+first-nothing (some l) = refl
+
+pub plain-as-before : (φ ψ : Fmla) (n x : ℕ) → ((y : ℕ) → x ≢ y → ¬ Equates φ x y) → plain (conj φ ψ) n x ≡ first (plain φ n x) (first (plain ψ (n + size φ) x) (through (equated ψ x) (λ y. plain φ n y)))
+plain-as-before φ ψ n x m = go (equated-view φ x)
+  where
+    go : {o : Option ℕ} → EquatedView φ x o → first (plain φ n x) (first (plain ψ (n + size φ) x) (first (through (equated ψ x) (λ y. plain φ n y)) (through o (λ y. plain ψ (n + size φ) y)))) ≡ first (plain φ n x) (first (plain ψ (n + size φ) x) (through (equated ψ x) (λ y. plain φ n y)))
+    go (equates {y} k q) = absurd (m y k q)
+    go (equates-none k) = ap (λ a. first (plain φ n x) (first (plain ψ (n + size φ) x) a)) (first-nothing (through (equated ψ x) (λ y. plain φ n y)))
 
 -- Whether a variable is generated doesn't depend on where the numbering starts.
 pub none-anywhere : (φ : Fmla) (m n x : ℕ) → is-none (plain φ m x) ≡ is-none (plain φ n x)
 none-anywhere φ m n x = reflects-same (reflects-none φ m x) (reflects-none φ n x) (λ g. g) (λ g. g)
 
-pub generated-decided : (x : ℕ) (φ : Fmla) → Generated x φ ⊎ (¬ Generated x φ)
+pub generated-decided : (x : ℕ) (φ : Fmla) → Ranged x φ ⊎ (¬ Ranged x φ)
 generated-decided x φ = go (plain-right φ 0 x)
   where
-    go : {l : Leaves} → LeavesRight x φ 0 l → Generated x φ ⊎ (¬ Generated x φ)
-    go (generated-by G d) = inl (G, gen-at-gen d)
+    go : {l : Leaves} → LeavesRight x φ 0 l → Ranged x φ ⊎ (¬ Ranged x φ)
+    go (generated-by G d) = inl (G, ranged-at-ranged d)
     go (not-generated p) = inr p
 
 -- ---- the leaves are atoms of the formula
@@ -302,7 +320,7 @@ atom-neg : (φ : Fmla) (n : ℕ) {p : ℕ} → AtNode Ap (neg φ) n p → AtNode
 atom-neg φ n a = at-node-neg Ap φ n (λ t. atom-no-neg t tt) a
 
 -- Every leaf that is named is the number of an atom of the formula.
-pub leaf-atom : {x n : ℕ} {φ : Fmla} {G : List Fmla} {L : List ℕ} → GenAt x φ n G L → (p : ℕ) → In p L → AtNode Ap φ n p
+pub leaf-atom : {x n : ℕ} {φ : Fmla} {G : List Fmla} {L : List ℕ} → RangedAt x φ n G L → (p : ℕ) → In p L → AtNode Ap φ n p
 leaf-atom at-false p i = absurd (in-nil i)
 leaf-atom (at-atom {n = n} {φ} a j) p i = at-root a (in-one i)
   where
@@ -328,12 +346,13 @@ leaf-atom (at-conj-right {n = n} {φ} {ψ} d) p i = atom-right (conj φ ψ) φ �
 leaf-atom (at-conj-eq {x} {y} {n} {φ} d) p i = atom-left (conj φ (eq x (var y))) φ (eq x (var y)) n (λ u j. j) (leaf-atom d p i)
 leaf-atom (at-conj-eq′ {x} {y} {n} {φ} d) p i = atom-left (conj φ (eq y (var x))) φ (eq y (var x)) n (λ u j. j) (leaf-atom d p i)
 leaf-atom (at-exists {y = y} {n} {φ} m d) p i = at-node-more Ap φ n (exists y φ) n (λ u j. in-left (node (n + size φ) (exists y φ) ∷ []) j) (leaf-atom d p i)
+leaf-atom (at-eq-conj {n = n} {φ} {ψ} m q d) p i = atom-right (conj φ ψ) φ ψ n (λ u j. j) (leaf-atom d p i)
 
 append-lengths : {A B : Type 0} (xs ys : List A) (us vs : List B) → length xs ≡ length us → length ys ≡ length vs → length (xs ++ ys) ≡ length (us ++ vs)
 append-lengths xs ys us vs e f = length-append xs ys ∙ (λ i. e i + f i) ∙ sym (length-append us vs)
 
 -- There are as many leaves as generators: each generator is one leaf's atom, with 000's substitutions and quantifiers.
-pub leaves-generators : {x n : ℕ} {φ : Fmla} {G : List Fmla} {L : List ℕ} → GenAt x φ n G L → length G ≡ length L
+pub leaves-generators : {x n : ℕ} {φ : Fmla} {G : List Fmla} {L : List ℕ} → RangedAt x φ n G L → length G ≡ length L
 leaves-generators at-false = refl
 leaves-generators (at-atom a i) = refl
 leaves-generators (at-neg-neg d) = leaves-generators d
@@ -346,6 +365,7 @@ leaves-generators (at-conj-right d) = leaves-generators d
 leaves-generators (at-conj-eq {x} {y} {G = G} d) = length-map G (λ χ. cp (subst-for χ y x)) ∙ leaves-generators d
 leaves-generators (at-conj-eq′ {x} {y} {G = G} d) = length-map G (λ χ. cp (subst-for χ y x)) ∙ leaves-generators d
 leaves-generators (at-exists {y = y} {G = G} m d) = length-map G (exists-if-free y) ∙ leaves-generators d
+leaves-generators (at-eq-conj {x} {y} {G = G} m q d) = length-map G (λ χ. cp (subst-for χ y x)) ∙ leaves-generators d
 
 -- ---- where a generated variable has its value from
 
@@ -369,7 +389,7 @@ module _ (pool : Pool) (D : Database) where
   from-below φ n s = among-more φ n (neg φ) n (λ u i. i) (λ u i. in-left (node (n + size φ) (neg φ) ∷ []) i) s
 
   -- A generated variable of a satisfied formula has its value from one of the leaves.
-  pub leaf-value : {x n : ℕ} {φ : Fmla} {G : List Fmla} {L : List ℕ} → GenAt x φ n G L → (σ : Env) → Sat pool D φ σ → SourceAmong pool D φ n L (σ x)
+  pub leaf-value : {x n : ℕ} {φ : Fmla} {G : List Fmla} {L : List ℕ} → RangedAt x φ n G L → (σ : Env) → Sat pool D φ σ → SourceAmong pool D φ n L (σ x)
   leaf-value at-false σ s = absurd s
   leaf-value (at-atom {x} {n} (ap-rel {r} {ts}) i) σ s = (n, here refl, (rel r ts, here refl, (values pool σ ts, s, in-values pool σ x ts i)))
   leaf-value (at-atom {x} {n} (ap-eq {x = y} {p}) i) σ s = (n, here refl, (eq y (con p), here refl, ap σ (in-one i) ∙ s))
@@ -398,6 +418,8 @@ module _ (pool : Pool) (D : Database) where
   leaf-value (at-exists {x} {y} {n} {φ} {L = L} m d) σ s =
       among-more φ n (exists y φ) n (λ u i. i) (λ u i. in-left (node (n + size φ) (exists y φ) ∷ []) i)
       (subst (λ v. SourceAmong pool D φ n L v) (bind-other y (s .0) σ x m) (leaf-value d (bind y (s .0) σ) (s .1)))
+  leaf-value (at-eq-conj {x} {y} {n} {φ} {ψ} {L = L} m q d) σ s =
+      among-more ψ (n + size φ) (conj φ ψ) n (λ u i. i) (right-node (conj φ ψ) φ ψ n) (subst⁻¹ (λ v. SourceAmong pool D ψ (n + size φ) L v) (equates-sat pool D σ q (s .0)) (leaf-value d σ (s .1)))
 
   -- The root is a node that knows as much.
   root : (φ : Fmla) (n p : ℕ) (χ : Fmla) → In (node p χ) (node n φ ∷ []) → known pool D χ ⊆ known pool D φ
@@ -436,7 +458,7 @@ module _ (pool : Pool) (D : Database) where
   source-known (exists z φ) v s = absurd s
 
   -- A generated variable of a satisfied formula has a known value.
-  pub generated-known : (x : ℕ) (φ : Fmla) → Generated x φ → (σ : Env) → Sat pool D φ σ → In (σ x) (known pool D φ)
+  pub generated-known : (x : ℕ) (φ : Fmla) → Ranged x φ → (σ : Env) → Sat pool D φ σ → In (σ x) (known pool D φ)
   generated-known x φ g σ s = go (plain-right φ 0 x)
     where
       go : {l : Leaves} → LeavesRight x φ 0 l → In (σ x) (known pool D φ)

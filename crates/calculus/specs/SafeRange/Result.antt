@@ -15,7 +15,7 @@ use Rattle.calculus.specs.Satisfaction.{Pool, Database, Sat, Known, know
 use Rattle.calculus.specs.Satisfaction.Laws.{known-means}
 use Rattle.calculus.specs.Propagation.{cp}
 use Rattle.calculus.specs.Propagation.Laws.{cp-sat, known-cp}
-use Rattle.calculus.specs.Generation.{Generated}
+use Rattle.calculus.specs.Ranging.{Ranged}
 use Rattle.calculus.specs.Generators.{plain, is-none, columns, unranged-node, verdict, is-empty, safe}
 use Rattle.calculus.specs.Generators.Laws.{reflects-none, generated-decided, generated-known}
 use Rattle.calculus.specs.SafeRange.{SafeRange, Unranged}
@@ -44,7 +44,7 @@ reflects-empty [] = holds (λ x i. in-nil i)
 reflects-empty (x ∷ xs) = fails (λ n. n x (here refl))
 
 -- What the report of the free variables holds.
-pub ungenerated-means : (φ : Fmla) (x : ℕ) → In x (verdict φ .ungenerated) ↔ (In x (fv φ) × ¬ Generated x (cp φ))
+pub ungenerated-means : (φ : Fmla) (x : ℕ) → In x (verdict φ .ungenerated) ↔ (In x (fv φ) × ¬ Ranged x (cp φ))
 ungenerated-means φ x = (
   λ i. let s = from-select test (columns φ) i in (columns-members φ x .0 (s .0), reflected (reflects-none (cp φ) 0 x) (s .1)),
   λ h. in-select test (columns-members φ x .1 (h .0)) (reflects (reflects-none (cp φ) 0 x) (h .1)),
@@ -66,7 +66,7 @@ from-unranged n k (exists z ψ) i =
 in-unranged : (n : ℕ) (χ : Fmla) → Unranged χ → In n (unranged-node (node n χ))
 in-unranged n χ u = subst⁻¹ (λ ω. In n (unranged-node (node n ω))) (u .2) (go (reflects-none (u .1) 0 (u .0)))
   where
-    go : {b : Bool} → Reflects (¬ Generated (u .0) (u .1)) b → In n (cond b (n ∷ []) [])
+    go : {b : Bool} → Reflects (¬ Ranged (u .0) (u .1)) b → In n (cond b (n ∷ []) [])
     go (holds m) = here refl
     go (fails k) = absurd (k (u .3))
 
@@ -77,7 +77,7 @@ unranged-means φ k = (λ i. let s = from-union unranged-node (nodes (cp φ) 0) 
     at-node : (u : Node) → In u (nodes (cp φ) 0) → In k (unranged-node u) → (χ : Fmla) × In (node k χ) (nodes (cp φ) 0) × Unranged χ
     at-node (node n χ) i j = let s = from-unranged n k χ j in (χ, subst⁻¹ (λ m. In (node m χ) (nodes (cp φ) 0)) (s .0) i, s .1)
 
--- The verdict is safe-range in document 01's sense.
+-- The verdict is safe-range.
 pub safe-reflects : (φ : Fmla) → Reflects (SafeRange φ) (safe (verdict φ))
 safe-reflects φ = reflects-map sound complete (reflects-and (reflects-empty (verdict φ .ungenerated)) (reflects-empty (verdict φ .unranged)))
   where
@@ -109,7 +109,7 @@ module _ (pool : Pool) (D : Database) (φ : Fmla) (s : SafeRange φ) where
       c : ℕ
       c = col .0
 
-      generated : Generated c (cp φ)
+      generated : Ranged c (cp φ)
       generated = s .0 c (columns-members φ c .0 (col .1))
 
       holds-form : Sat pool D (cp φ) (row-env (columns φ) w)

@@ -50,7 +50,7 @@ each-in P (d ∷ cs) e (here p) = subst⁻¹ P p (e .0)
 each-in P (d ∷ cs) e (there i) = each-in P cs (e .1) i
 
 all-read : Each Read cases
-all-read = ((refl, refl), ((refl, refl), ((refl, refl), ((refl, refl), ((refl, refl), ((refl, refl), ((refl, refl), ((refl, refl), ((refl, refl), ((refl, refl), ((refl, refl), ((refl, refl), ((refl, refl), ((refl, refl), ((refl, refl), ((refl, refl), tt))))))))))))))))
+all-read = ((refl, refl), ((refl, refl), ((refl, refl), ((refl, refl), ((refl, refl), ((refl, refl), ((refl, refl), ((refl, refl), ((refl, refl), ((refl, refl), ((refl, refl), ((refl, refl), ((refl, refl), ((refl, refl), ((refl, refl), ((refl, refl), ((refl, refl), ((refl, refl), tt))))))))))))))))))
 
 pub case-read : (c : Case) → In c cases → Read c
 case-read c i = each-in Read cases all-read i

@@ -1,5 +1,5 @@
 -- What the verdict's reply says: its form is an accepted query of the propagated formula, the bits of its numbers are the generators and the reports of the
--- calculus, and safe-range is 000's, widened as document 01 says.
+-- calculus, and safe-range is 000's, widened as documents 01 and 02 say.
 use Prim.Native.Nat.{ℕ, zero, suc, _-_, _≤_, _<_, _^_}
 use native.Mathlib.Omega.{arith}
 use mathlib.Core.Path.{_≡_, refl, sym, ap, subst⁻¹, _∙_, subst}
@@ -18,7 +18,8 @@ use Rattle.calculus.specs.Reflects.Laws.{reflected, reflects-map}
 use Rattle.calculus.specs.Formula.{Fmla, fv, size, node, nodes}
 use Rattle.calculus.specs.Formula.Laws.{node-below}
 use Rattle.calculus.specs.Propagation.{cp}
-use Rattle.calculus.specs.Generation.{Ap, Generated}
+use Rattle.calculus.specs.Generation.{Ap}
+use Rattle.calculus.specs.Ranging.{Ranged}
 use Rattle.calculus.specs.Generators.{Leaves, columns, plain, leaves, unranged-node, verdict, safe}
 use Rattle.calculus.specs.Sources.{LeavesRight, generated-by, not-generated, AtNode}
 use Rattle.calculus.specs.Generators.Laws.{plain-right, leaf-atom}
@@ -110,11 +111,11 @@ module _ (ws : List ℕ) (q : Query) (a : Accepted ws q) where
 
   -- ---- the numbers, bit by bit
 
-  -- The generators of a column: the leaf nodes of document 01's order in the form.
+  -- The generators of a column: the leaf nodes of the generation order in the form.
   pub generator-bit : (c n : ℕ) → c < length (columns (formula q)) → n < max-nodes → has max-nodes (getD (judged q .generators) c 0) n ≡ member n (leaves (plain (cp (formula q)) 0 (getD (columns (formula q)) c 0)))
   generator-bit c n h l = ap (λ m. has max-nodes m n) (number-at (formula q) c h) ∙ has-bits (λ k. member k (leaves (plain (cp (formula q)) 0 (getD (columns (formula q)) c 0)))) max-nodes n l
 
-  -- The generators of a column are the leaves beside a set that 000 allows, and none where it allows none.
+  -- The generators of a column are the leaves beside a set that the rules allow, and none where they allow none.
   pub generator-right : (c : ℕ) → c < length (columns (formula q)) → (a : Leaves) × LeavesRight (getD (columns (formula q)) c 0) (cp (formula q)) 0 a × (getD (judged q .generators) c 0 ≡ node-mask (leaves a))
   generator-right c h = let x : ℕ = getD (columns (formula q)) c 0 in (plain (cp (formula q)) 0 x, plain-right (cp (formula q)) 0 x, number-at (formula q) c h)
 
@@ -125,7 +126,7 @@ module _ (ws : List ℕ) (q : Query) (a : Accepted ws q) where
       leaf-of (plain-right (cp (formula q)) 0 x) n (reflected (reflects-member n (leaves (plain (cp (formula q)) 0 x))) (subst⁻¹ T (sym (generator-bit c n h l) ∙ e) tt))
 
   -- The free variables as read that aren't generated in the form.
-  pub ungenerated-bit : (x : ℕ) → x < 16 → Reflects (In x (fv (formula q)) × ¬ Generated x (cp (formula q))) (has 16 (judged q .ungenerated) x)
+  pub ungenerated-bit : (x : ℕ) → x < 16 → Reflects (In x (fv (formula q)) × ¬ Ranged x (cp (formula q))) (has 16 (judged q .ungenerated) x)
   ungenerated-bit x h = bit-means 16 (verdict (formula q) .ungenerated) x h (ungenerated-means (formula q) x)
 
   -- The exists nodes of the form whose variable isn't generated in their child.
@@ -175,7 +176,7 @@ assembled ws q a f cs gs u w b e d eg eu ew eb =
 
 -- The reply to accepted bytes.
 module _ (ws bs : List ℕ) (done : read-of ws bs .answer ≡ Done) where
-  -- The verdict is safe-range of 000, widened as document 01 says, and it is that both reports are zero.
+  -- The verdict is safe-range of 000, widened as documents 01 and 02 say, and it is that both reports are zero.
   pub verdict-safe : Reflects (SafeRange (formula (read-of ws bs .query))) (verdict-of ws bs .safe)
   verdict-safe = subst⁻¹ (λ v. Reflects (SafeRange (formula (read-of ws bs .query))) (v .safe)) (verdict-done ws bs done) (safe-reflects (formula (read-of ws bs .query)))
 

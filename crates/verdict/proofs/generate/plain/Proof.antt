@@ -44,17 +44,17 @@ mul-result c = search needs
 element-copy-out-result : tie.Need-element-copy-out-result
 element-copy-out-result c = search needs
 
-mul-result-2 : tie.Need-mul-result-2
-mul-result-2 c = search needs
+mul-apart : tie.Need-mul-apart
+mul-apart c = search needs
 
-element-copy-out-result-2 : tie.Need-element-copy-out-result-2
-element-copy-out-result-2 c = search needs
+element-copy-out-apart : tie.Need-element-copy-out-apart
+element-copy-out-apart c = search needs
 
-mul-result-3 : tie.Need-mul-result-3
-mul-result-3 c = search needs
+mul-apart-2 : tie.Need-mul-apart-2
+mul-apart-2 c = search needs
 
-element-copy-out-result-3 : tie.Need-element-copy-out-result-3
-element-copy-out-result-3 c = search needs
+element-copy-out-apart-2 : tie.Need-element-copy-out-apart-2
+element-copy-out-apart-2 c = search needs
 
 mul-equated : tie.Need-mul-equated
 mul-equated c = search needs
@@ -71,17 +71,32 @@ element-copy-out-equated-2 c = search needs
 equated-requires : tie.Need-equated-requires
 equated-requires c κs = search needs
 
-mul-result-4 : tie.Need-mul-result-4
-mul-result-4 c = search needs
+mul-equated-3 : tie.Need-mul-equated-3
+mul-equated-3 c = search needs
 
-element-copy-out-result-4 : tie.Need-element-copy-out-result-4
-element-copy-out-result-4 c = search needs
+element-copy-out-equated-3 : tie.Need-element-copy-out-equated-3
+element-copy-out-equated-3 c = search needs
 
-mul-result-5 : tie.Need-mul-result-5
-mul-result-5 c = search needs
+mul-equated-4 : tie.Need-mul-equated-4
+mul-equated-4 c = search needs
 
-element-copy-out-result-5 : tie.Need-element-copy-out-result-5
-element-copy-out-result-5 c = search needs
+element-copy-out-equated-4 : tie.Need-element-copy-out-equated-4
+element-copy-out-equated-4 c = search needs
+
+equated-requires-2 : tie.Need-equated-requires-2
+equated-requires-2 c κs = search needs
+
+mul-result-2 : tie.Need-mul-result-2
+mul-result-2 c = search needs
+
+element-copy-out-result-2 : tie.Need-element-copy-out-result-2
+element-copy-out-result-2 c = search needs
+
+mul-result-3 : tie.Need-mul-result-3
+mul-result-3 c = search needs
+
+element-copy-out-result-3 : tie.Need-element-copy-out-result-3
+element-copy-out-result-3 c = search needs
 
 mul-leave-out : tie.Need-mul-leave-out
 mul-leave-out c = search needs
@@ -112,8 +127,8 @@ returns-6 c = let n = c .before .before .before .fields .ensures in rw (n .reads
 
 returns-7 : tie.Need-returns-7
 returns-7 c =
-    let m = c .before .before .before .before .before in let n = m .before .before .fields .ensures in
-    rw (c .equated .ensures, n .reads, kind-read n (m .match .keys5))
+    let e = c .before .before .before in let m = e .before .before .before .before .before in let n = m .before .before .fields .ensures in
+    rw (e .equated .ensures, c .equated2 .ensures, n .reads, kind-read n (m .match .keys5))
 
 returns-8 : tie.Need-returns-8
 returns-8 c = let n = c .before .before .before .before .fields .ensures in rw (n .reads, kind-read n (c .before .before .match .keys6))
@@ -142,19 +157,24 @@ plain-spec =
     term-bit-requires
     mul-result
     element-copy-out-result
-    mul-result-2
-    element-copy-out-result-2
-    mul-result-3
-    element-copy-out-result-3
+    mul-apart
+    element-copy-out-apart
+    mul-apart-2
+    element-copy-out-apart-2
     mul-equated
     element-copy-out-equated
     mul-equated-2
     element-copy-out-equated-2
     equated-requires
-    mul-result-4
-    element-copy-out-result-4
-    mul-result-5
-    element-copy-out-result-5
+    mul-equated-3
+    element-copy-out-equated-3
+    mul-equated-4
+    element-copy-out-equated-4
+    equated-requires-2
+    mul-result-2
+    element-copy-out-result-2
+    mul-result-3
+    element-copy-out-result-3
     mul-leave-out
     element-copy-out-leave-out
     leave-out-requires

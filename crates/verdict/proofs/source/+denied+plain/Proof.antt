@@ -1,5 +1,5 @@
 -- The proof of the cycle of calls {denied, plain}. Every call goes to a child, whose number is below its node's: the measure is the node's number.
--- Each way to return is one law of document 01's order: the sets show which way the order takes, and the calls give the nodes there.
+-- Each way to return is one law of the generation order: the sets show which way the order takes, and the calls give the nodes there.
 use native.Mathlib.Omega.{arith}
 use borrow.Author.Needs.{needs}
 use borrow.Author.Tests.{not-true, not-false}
@@ -16,7 +16,7 @@ use Rattle.query.specs.Code.Fields.Laws.{kind-read, kind-not-read}
 use Rattle.query.specs.Nodes.Laws.{children-not, children-exists, both-children}
 use Rattle.verdict.specs.Bits.{has}
 use Rattle.verdict.specs.Code.Form.{IsForm}
-use Rattle.verdict.specs.Code.Generating.{plain-bits, denied-bits, sets-of, plain-nodes, other-side}
+use Rattle.verdict.specs.Code.Generating.{plain-bits, denied-bits, sets-of, equated-set, plain-nodes, other-side}
 use Rattle.verdict.specs.Code.Generating.Variables.{child-below}
 use Rattle.verdict.specs.Code.Generating.Sources as order
 use borrow.Fn.Kinds.{In}
@@ -30,6 +30,7 @@ use Rattle.verdict.proofs.source.+denied+plain.Lts-plain as plain-lts
 use Rattle.query.proofs.node.fields.Reads as fields-reads
 use Rattle.verdict.proofs.bits.is_in.Reads as is-in-reads
 use Rattle.verdict.proofs.bits.node_bit.Reads as node-bit-reads
+use Rattle.verdict.proofs.generate.equated.Reads as equated-reads
 use Rattle.verdict.proofs.source.other.Reads as other-reads
 use Rattle.verdict.proofs.source.+denied+plain.{statement}
 use Rattle.verdict.proofs.source.+denied+plain.Tie.{close}
@@ -62,7 +63,7 @@ module _ {t : ℕ} {ns ps ds : List ℕ} {n i x : ℕ} (g : Given t ns ps ds n i
   abbrev word : ℕ
   word = getD ns i 0
 
-  -- A law of document 01's order at node i.
+  -- A law of the generation order at node i.
   law : {P : List ℕ → ℕ → ℕ → ℕ → Type 0} → ((ns : List ℕ) (n i x : ℕ) → IsForm ns n → i < n → x < 16 → P ns n i x) → P ns n i x
   law l = l ns n i x (g .1 .0 .0) (g .1 .0 .1) (g .1 .0 .2)
 
@@ -103,6 +104,12 @@ module _ {t : ℕ} {ns ps ds : List ℕ} {n i x : ℕ} (g : Given t ns ps ds n i
   plain-right : {r b : Bool} → HasTwo word → r ≡ has 16 (getD ps (right word) 0) x → r ≡ b → order.generates ns (right word) x ≡ b
   plain-right k = plain-shown (to-right k .1 .0 .1)
 
+  -- That the right child equates x with a variable that the left one generates.
+  equated-shown : {r b : Bool} {set : ℕ} → HasTwo word → set ≡ equated-set (getD ns (right word) 0) (getD ps (left word) 0) → r ≡ has 16 set x → r ≡ b → has 16 (equated-set (getD ns (right word) 0) (plain-bits ns (left word))) x ≡ b
+  equated-shown k d e f =
+      ap (λ u. has 16 (equated-set (getD ns (right word) 0) u) x) (sym (ap (λ l. getD l (left word) 0) (g .1 .1 .0) ∙ order.plains-at ns n (left word) (to-left k .1 .0 .1)))
+      ∙ ap (λ u. has 16 u x) (sym d) ∙ sym e ∙ f
+
   denied-left : {r b : Bool} → HasTwo word → r ≡ has 16 (getD ds (left word) 0) x → r ≡ b → order.generates-denied ns (left word) x ≡ b
   denied-left k = denied-shown (to-left k .1 .0 .1)
 
@@ -132,7 +139,7 @@ denied-claims t = (fields-reads.Asked, fields-reads.Learnt, is-in-reads.Asked, i
 
 abbrev plain-claims : ℕ → plain-lts.Claims
 plain-claims t =
-    (fields-reads.Asked, fields-reads.Learnt, is-in-reads.Asked, is-in-reads.Learnt, denied-below t, denied.Post, plain-below t, plain.Post, other-reads.Asked, other-reads.Learnt, node-bit-reads.Asked, node-bit-reads.Learnt)
+    (fields-reads.Asked, fields-reads.Learnt, is-in-reads.Asked, is-in-reads.Learnt, denied-below t, denied.Post, plain-below t, plain.Post, equated-reads.Asked, equated-reads.Learnt, other-reads.Asked, other-reads.Learnt, node-bit-reads.Asked, node-bit-reads.Learnt)
 
 -- ---- denied
 
@@ -235,18 +242,48 @@ module _ (t : ℕ) where
       let at = c .before .before .before in let n = plain-node (at .before) in
       plain-left (plain-start (at .before) .pre) (inl (kind-read n (at .match .keys3))) (rw (n .reads) at (c .before .is-in2 .ensures)) (c .if2 .left)
 
-  -- Past the third neither child does: the other side of the equality on the right is a variable, and the left child generates it.
   abbrev plain-and : plain-lts.After-is-in3 (plain-claims t) (plain-at t) plain.Post → plain-lts.At-match-keys3 (plain-claims t) (plain-at t) plain.Post
   plain-and c = c .before .before .before .before .before
 
-  plain-equated :
-      (c : plain-lts.Else3 (plain-claims t) (plain-at t) plain.Post) →
-      let s = plain-start (plain-and (c .before) .before) in
+  -- Past the third neither child does.
+  plain-neither : (c : plain-lts.Else3 (plain-claims t) (plain-at t) plain.Post) → let s = plain-start (plain-and (c .before) .before) in order.generates (s .args .nodes .now) (right (word (s .pre))) (s .args .x) ≡ false
+  plain-neither c =
+      let at = plain-and (c .before) in let n = plain-node (at .before) in
+      plain-right (plain-start (at .before) .pre) (inl (kind-read n (at .match .keys3))) (rw (n .reads) at (c .before .is-in3 .ensures)) (c .if3 .left)
+
+  -- The fourth tells whether the right child equates x with a variable that the left one generates.
+  abbrev plain-third : plain-lts.After-is-in4 (plain-claims t) (plain-at t) plain.Post → plain-lts.Else3 (plain-claims t) (plain-at t) plain.Post
+  plain-third c = c .before .before .before .before
+
+  abbrev plain-by : plain-lts.After-is-in4 (plain-claims t) (plain-at t) plain.Post → plain-lts.At-match-keys3 (plain-claims t) (plain-at t) plain.Post
+  plain-by c = plain-and (plain-third c .before)
+
+  plain-told :
+      (c : plain-lts.After-is-in4 (plain-claims t) (plain-at t) plain.Post) {b : Bool} → c .is-in4 .result ≡ b →
+      let s = plain-start (plain-by c .before) in let ns = s .args .nodes .now in let w = word (s .pre) in has 16 (equated-set (getD ns (right w) 0) (plain-bits ns (left w))) (s .args .x) ≡ b
+  plain-told c e =
+      let at = plain-by c in let g = plain-start (at .before) .pre in let n = plain-node (at .before) in
+      equated-shown g (inl (kind-read n (at .match .keys3))) (rw (n .reads) at (c .before .equated .ensures)) (c .is-in4 .ensures) e
+
+  -- Where it does, the other side of that equality is a variable, and the left child generates it.
+  plain-by-right :
+      (c : plain-lts.Then4 (plain-claims t) (plain-at t) plain.Post) →
+      let s = plain-start (plain-by (c .before) .before) in
       let y = other-side (getD (s .args .nodes .now) (right (word (s .pre))) 0) (s .args .x) in
       (y < 16) × (plain-nodes (s .args .nodes .now) (s .args .i) (s .args .x) ≡ plain-nodes (s .args .nodes .now) (left (word (s .pre))) y)
-  plain-equated c =
-      let at = plain-and (c .before) in let g = plain-start (at .before) .pre in let n = plain-node (at .before) in let k = kind-read n (at .match .keys3) in
-      law g order.nodes-and-equated k (plain-generates (at .before)) (plain-not-left (c .before .before .before)) (plain-right g (inl k) (rw (n .reads) at (c .before .is-in3 .ensures)) (c .if3 .left))
+  plain-by-right c =
+      let past = plain-third (c .before) in let at = plain-and (past .before) in
+      law (plain-start (at .before) .pre) order.nodes-and-by-right (kind-read (plain-node (at .before)) (at .match .keys3)) (plain-not-left (past .before .before .before)) (plain-neither past) (plain-told (c .before) (c .if4 .taken))
+
+  -- Where it doesn't, x comes through the equality on the left, and the right child generates its other side.
+  plain-by-left :
+      (c : plain-lts.Else4 (plain-claims t) (plain-at t) plain.Post) →
+      let s = plain-start (plain-by (c .before) .before) in
+      let y = other-side (getD (s .args .nodes .now) (left (word (s .pre))) 0) (s .args .x) in
+      (y < 16) × (plain-nodes (s .args .nodes .now) (s .args .i) (s .args .x) ≡ plain-nodes (s .args .nodes .now) (right (word (s .pre))) y)
+  plain-by-left c =
+      let past = plain-third (c .before) in let at = plain-and (past .before) in
+      law (plain-start (at .before) .pre) order.nodes-and-by-left (kind-read (plain-node (at .before)) (at .match .keys3)) (plain-generates (at .before)) (plain-not-left (past .before .before .before)) (plain-neither past) (plain-told (c .before) (c .if4 .left))
 
   plain-mul-w : plain-lts.Need-mul-w (plain-claims t) (plain-at t) plain.Post
   plain-mul-w c = search needs
@@ -307,6 +344,24 @@ module _ (t : ℕ) where
       let at = plain-and (c .before .before) in let g = plain-start (at .before) .pre in let n = plain-node (at .before) in let k = kind-read n (at .match .keys3) in
       (rw (n .reads) at (c .plain2 .ensures)) ∙ sym (law g order.nodes-and-right k (plain-not-left (c .before .before .before .before)) (plain-right g (inl k) (rw (n .reads) at (c .before .before .is-in3 .ensures)) (c .before .if3 .taken)))
 
+  plain-mul-equated : plain-lts.Need-mul-equated (plain-claims t) (plain-at t) plain.Post
+  plain-mul-equated c = search needs
+
+  plain-shared-slice-read-equated : plain-lts.Need-shared-slice-read-equated (plain-claims t) (plain-at t) plain.Post
+  plain-shared-slice-read-equated c = search needs
+
+  plain-mul-equated-2 : plain-lts.Need-mul-equated-2 (plain-claims t) (plain-at t) plain.Post
+  plain-mul-equated-2 c = search needs
+
+  plain-element-copy-out-equated : plain-lts.Need-element-copy-out-equated (plain-claims t) (plain-at t) plain.Post
+  plain-element-copy-out-equated c = search needs
+
+  plain-equated-requires : plain-lts.Need-equated-requires (plain-claims t) (plain-at t) plain.Post
+  plain-equated-requires c κs = search needs
+
+  plain-is-in-requires-4 : plain-lts.Need-is-in-requires-4 (plain-claims t) (plain-at t) plain.Post
+  plain-is-in-requires-4 c κs = search needs
+
   plain-mul-other : plain-lts.Need-mul-other (plain-claims t) (plain-at t) plain.Post
   plain-mul-other c = search needs
 
@@ -318,46 +373,65 @@ module _ (t : ℕ) where
 
   plain-plain-requires-3 : plain-lts.Need-plain-requires-3 (plain-claims t) (plain-at t) plain.Post
   plain-plain-requires-3 c κs =
-      let at = plain-and (c .before .before .before) in let g = plain-start (at .before) .pre in let n = plain-node (at .before) in
-      rw (c .other .ensures, n .reads) (to-child g (both-children (word g) (inl (kind-read n (at .match .keys3))) .0) (plain-equated (c .before .before) .0))
+      let then = c .before .before in let at = plain-by (then .before) in let g = plain-start (at .before) .pre in let n = plain-node (at .before) in
+      rw (c .other .ensures, n .reads) (to-child g (both-children (word g) (inl (kind-read n (at .match .keys3))) .0) (plain-by-right then .0))
+
+  plain-returns-4 : plain-lts.Need-returns-4 (plain-claims t) (plain-at t) plain.Post
+  plain-returns-4 c =
+      let then = c .before .before .before in let n = plain-node (plain-by (then .before) .before) in
+      (rw (c .before .other .ensures, n .reads) at (c .plain3 .ensures)) ∙ sym (plain-by-right then .1)
+
+  plain-mul-other-2 : plain-lts.Need-mul-other-2 (plain-claims t) (plain-at t) plain.Post
+  plain-mul-other-2 c = search needs
+
+  plain-shared-slice-read-other-2 : plain-lts.Need-shared-slice-read-other-2 (plain-claims t) (plain-at t) plain.Post
+  plain-shared-slice-read-other-2 c = search needs
+
+  plain-other-requires-2 : plain-lts.Need-other-requires-2 (plain-claims t) (plain-at t) plain.Post
+  plain-other-requires-2 c κs = search needs
 
   plain-plain-requires-4 : plain-lts.Need-plain-requires-4 (plain-claims t) (plain-at t) plain.Post
-  plain-plain-requires-4 c κs = let n = plain-node (c .before) in rw (n .reads) (to-left (plain-start (c .before) .pre) (inr (kind-read n (c .match .keys4))))
+  plain-plain-requires-4 c κs =
+      let else4 = c .before .before in let at = plain-by (else4 .before) in let g = plain-start (at .before) .pre in let n = plain-node (at .before) in
+      rw (c .other2 .ensures, n .reads) (to-child g (both-children (word g) (inl (kind-read n (at .match .keys3))) .1) (plain-by-left else4 .0))
 
   plain-plain-requires-5 : plain-lts.Need-plain-requires-5 (plain-claims t) (plain-at t) plain.Post
-  plain-plain-requires-5 c κs = let n = plain-node (c .before .before) in rw (n .reads) (to-right (plain-start (c .before .before) .pre) (inr (kind-read n (c .before .match .keys4))))
+  plain-plain-requires-5 c κs = let n = plain-node (c .before) in rw (n .reads) (to-left (plain-start (c .before) .pre) (inr (kind-read n (c .match .keys4))))
 
   plain-plain-requires-6 : plain-lts.Need-plain-requires-6 (plain-claims t) (plain-at t) plain.Post
-  plain-plain-requires-6 c κs = let n = plain-node (c .before) in rw (n .reads) (to-exists (plain-start (c .before) .pre) (kind-read n (c .match .keys5)))
+  plain-plain-requires-6 c κs = let n = plain-node (c .before .before) in rw (n .reads) (to-right (plain-start (c .before .before) .pre) (inr (kind-read n (c .before .match .keys4))))
+
+  plain-plain-requires-7 : plain-lts.Need-plain-requires-7 (plain-claims t) (plain-at t) plain.Post
+  plain-plain-requires-7 c κs = let n = plain-node (c .before) in rw (n .reads) (to-exists (plain-start (c .before) .pre) (kind-read n (c .match .keys5)))
 
   plain-node-bit-requires : plain-lts.Need-node-bit-requires (plain-claims t) (plain-at t) plain.Post
   plain-node-bit-requires c κs = search needs
 
-  plain-returns-4 : plain-lts.Need-returns-4 (plain-claims t) (plain-at t) plain.Post
-  plain-returns-4 c = sym (law (plain-start (c .before) .pre) order.nodes-truth (kind-read (plain-node (c .before)) (c .match .keys1)))
-
   plain-returns-5 : plain-lts.Need-returns-5 (plain-claims t) (plain-at t) plain.Post
-  plain-returns-5 c =
-      let n = plain-node (c .before .before) in
-      (rw (n .reads) at (c .denied .ensures)) ∙ sym (law (plain-start (c .before .before) .pre) order.nodes-not (kind-read n (c .before .match .keys2)))
+  plain-returns-5 c = sym (law (plain-start (c .before) .pre) order.nodes-truth (kind-read (plain-node (c .before)) (c .match .keys1)))
 
   plain-returns-6 : plain-lts.Need-returns-6 (plain-claims t) (plain-at t) plain.Post
   plain-returns-6 c =
-      let else3 = c .before .before .before in let n = plain-node (plain-and (else3 .before) .before) in
-      (rw (c .before .other .ensures, n .reads) at (c .plain3 .ensures)) ∙ sym (plain-equated else3 .1)
+      let n = plain-node (c .before .before) in
+      (rw (n .reads) at (c .denied .ensures)) ∙ sym (law (plain-start (c .before .before) .pre) order.nodes-not (kind-read n (c .before .match .keys2)))
 
   plain-returns-7 : plain-lts.Need-returns-7 (plain-claims t) (plain-at t) plain.Post
   plain-returns-7 c =
-      let at = c .before .before in let n = plain-node (at .before) in
-      rw (c .before .plain4 .ensures, c .plain5 .ensures, n .reads) (sym (law (plain-start (at .before) .pre) order.nodes-or (kind-read n (at .match .keys4)) (plain-generates (at .before))))
+      let else4 = c .before .before .before in let n = plain-node (plain-by (else4 .before) .before) in
+      (rw (c .before .other2 .ensures, n .reads) at (c .plain4 .ensures)) ∙ sym (plain-by-left else4 .1)
 
   plain-returns-8 : plain-lts.Need-returns-8 (plain-claims t) (plain-at t) plain.Post
   plain-returns-8 c =
-      let at = c .before in let n = plain-node (at .before) in
-      (rw (n .reads) at (c .plain6 .ensures)) ∙ sym (law (plain-start (at .before) .pre) order.nodes-exists (kind-read n (at .match .keys5)) (plain-generates (at .before)))
+      let at = c .before .before in let n = plain-node (at .before) in
+      rw (c .before .plain5 .ensures, c .plain6 .ensures, n .reads) (sym (law (plain-start (at .before) .pre) order.nodes-or (kind-read n (at .match .keys4)) (plain-generates (at .before))))
 
   plain-returns-9 : plain-lts.Need-returns-9 (plain-claims t) (plain-at t) plain.Post
   plain-returns-9 c =
+      let at = c .before in let n = plain-node (at .before) in
+      (rw (n .reads) at (c .plain7 .ensures)) ∙ sym (law (plain-start (at .before) .pre) order.nodes-exists (kind-read n (at .match .keys5)) (plain-generates (at .before)))
+
+  plain-returns-10 : plain-lts.Need-returns-10 (plain-claims t) (plain-at t) plain.Post
+  plain-returns-10 c =
       let at = c .before in let g = plain-start (at .before) .pre in
       c .node-bit .ensures ∙ sym (law g order.nodes-leaf (plain-generates (at .before)) (leaf-kind (kind (word g)) (omega (arith, at .match .rest, ap (λ f. f .kind) (plain-node (at .before) .reads))) (omega (arith, at .match .rest, ap (λ f. f .kind) (plain-node (at .before) .reads), law g order.kind-known))))
 
@@ -409,17 +483,28 @@ pub +denied+plain-spec : {M : Type 1} → statement M
     (plain-is-in-requires-3 t)
     (plain-plain-requires-2 t)
     (plain-returns-3 t)
+    (plain-mul-equated t)
+    (plain-shared-slice-read-equated t)
+    (plain-mul-equated-2 t)
+    (plain-element-copy-out-equated t)
+    (plain-equated-requires t)
+    (plain-is-in-requires-4 t)
     (plain-mul-other t)
     (plain-shared-slice-read-other t)
     (plain-other-requires t)
     (plain-plain-requires-3 t)
+    (plain-returns-4 t)
+    (plain-mul-other-2 t)
+    (plain-shared-slice-read-other-2 t)
+    (plain-other-requires-2 t)
     (plain-plain-requires-4 t)
     (plain-plain-requires-5 t)
     (plain-plain-requires-6 t)
+    (plain-plain-requires-7 t)
     (plain-node-bit-requires t)
-    (plain-returns-4 t)
     (plain-returns-5 t)
     (plain-returns-6 t)
     (plain-returns-7 t)
     (plain-returns-8 t)
-    (plain-returns-9 t))
+    (plain-returns-9 t)
+    (plain-returns-10 t))
