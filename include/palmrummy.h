@@ -162,11 +162,11 @@ static inline bool palmrummy_has_node(uint32_t number) {
 //   48      322     the form, packed as a query with the same constants; zeros after it
 //
 // A record generates the variables among its terms, an equality with a constant its variable. An and generates what
-// either child does; and where one child is an equality of two different variables, each of them that the other child
-// doesn't generate by itself, as it generates the other variable: x = y and 1(x) generates y from 1(x), as 1(x) and
-// x = y does (document 02, Point 3). Which node is named goes by this order: the left child, the right child, an
-// equality on the right, an equality on the left. An or generates what both children do. For what stands under a not
-// see document 01: there no equality carries a variable over.
+// either child does. Where neither child generates x, and one child is an equality of x and another variable y, the and
+// generates x from where the other child generates y: x = y and 1(x) generates y from 1(x), as 1(x) and x = y does
+// (document 02, Point 3). Its steps are tried in this order: the left child, the right child, an equality on the right,
+// an equality on the left. An or generates what both children do, an exists what its child does but for its own
+// variable. A node under a not is judged as denied (document 01); a denied node carries nothing over by an equality.
 //
 // A query is safe-range where the numbers at 38 and 40 are both 0. A column can be generated and have no generators:
 // false generates every variable, from no node. The number at 38 tells.

@@ -994,7 +994,8 @@ def equality_cases():
     # the order
     e("x = y and (1(x) and 2(y)): the right child first", [xy, R1, record(2, 1), both(1, 2), both(0, 3)], [[1], [2]], widths=[2, 1, 1] + [0] * 13)
     e("(x = y and 1(x)) and 1(y): y from node 1", [xy, R1, both(0, 1), Y, both(2, 3)], [[1], [1]])
-    e("x = y and (1(x) and x = y): the right child first", [xy, R1, xy, both(1, 2), both(0, 3)], [[1], [1]])
+    e("x = y and (1(x) and 1(y)): each from its own record", [xy, R1, Y, both(1, 2), both(0, 3)], [[1], [2]])
+    e("x = y and (1(x) and x = y): both from node 1", [xy, R1, xy, both(1, 2), both(0, 3)], [[1], [1]])
     # denied, and under two nots
     e("not (not x = y or not 1(x))", [xy, no(0), R1, no(2), either(1, 3), no(4)], [[2], []], [1])
     e("not (x = y or not 1(x))", [xy, R1, no(1), either(0, 2), no(3)], [[1], []], [1])
@@ -1018,6 +1019,7 @@ def equality_cases():
     e("31 equalities to the right", nested([xy] * 31 + [R1]), [[31], [31]])
     e("31 equalities to the left", joined([R1] + [xy] * 31), [[0], [0]])
     e("31 equalities, on either side in turn", alternating(31), [[15], [15]])
+    e("31 equalities to the right, of neither the record's variable", nested([xy] * 31 + [Z]), [[], [], [31]], [0, 1])
     e("31 equalities to the right, and no record", nested([xy] * 31 + [yz]), [[], [], []], [0, 1, 2])
 
 

@@ -167,9 +167,14 @@ static uint32_t safe_pair(uint32_t set, uint32_t budget) {
     return add_and(left, safe_formula((set & ~part) | any_part(set), budget / 2));
 }
 
-// One of them is told from another by an equality.
+// One of them is told from another by an equality, on either side.
 static uint32_t safe_equated(uint32_t set, uint32_t budget) {
-    uint32_t x = any_of(set), rest = set & ~(1u << x), y = any_of(rest), left = safe_formula(rest, budget - 2);
+    uint32_t x = any_of(set), rest = set & ~(1u << x), y = any_of(rest);
+    if (chance(50)) {
+        uint32_t left = chance(50) ? add_equality(x, y) : add_equality(y, x);
+        return add_and(left, safe_formula(rest, budget - 2));
+    }
+    uint32_t left = safe_formula(rest, budget - 2);
     return add_and(left, chance(50) ? add_equality(x, y) : add_equality(y, x));
 }
 

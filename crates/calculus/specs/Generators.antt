@@ -51,7 +51,8 @@ abbrev pub through : Option ℕ → (ℕ → Leaves) → Leaves
 through (some y) f = f y
 through none f = none
 
--- Document 01's order; beside each clause is its sentence there. "A node is judged plainly, or as denied when it stands under a not."
+-- The order; beside each clause is its sentence in document 01, and of an and's last step what document 02 says. "A node is judged plainly, or as denied
+-- when it stands under a not."
 -- `plain φ n x`: the leaves that generate x in φ, whose nodes are numbered from n. `denied φ n x`: the same where φ stands under a not.
 abbrev mutual
   pub plain : Fmla → ℕ → ℕ → Leaves

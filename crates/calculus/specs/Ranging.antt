@@ -16,7 +16,8 @@ pub mod Laws
 abbrev pub Equates : Fmla → ℕ → ℕ → Type 0
 Equates φ x y = (φ ≡ eq x (var y)) ⊎ (φ ≡ eq y (var x))
 
--- x is range-restricted in φ by the formulas of G: "generated", in document 02's sense. The rules up to the last are those of `GenBy`, which has 000's words beside them.
+-- x is range-restricted in φ by the formulas of G: "generated", in document 02's sense. All rules but the last are those of `GenBy`, in its order; it has 000's
+-- words beside them.
 pub data RangedBy : ℕ → Fmla → List Fmla → Type 0 where
   ranged-false : {x : ℕ} → RangedBy x (truth false) []
   ranged-atom : {x : ℕ} {φ : Fmla} → Ap φ → In x (fv φ) → RangedBy x φ (φ ∷ [])

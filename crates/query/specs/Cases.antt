@@ -19,7 +19,7 @@ use Rattle.query.specs.Packing.{pack}
 pub mod Test
 pub mod Laws
 
--- A worked case: the records, the packed query with the formula and constants that it is the packing of, and what document 01 says of it.
+-- A worked case: the records, the packed query with the formula and constants that it is the packing of, and what documents 01 and 02 say of it.
 pub record Case : Type 0 where
   pub records : Database
   pub bytes : List ℕ

@@ -1,6 +1,6 @@
-// The leaf nodes that a variable is generated from: document 01's order with document 02's last step, plain and denied. Each of the two calls itself with a child, whose number is below
-// its node's, and the other one through a not. The sets of `generate` say which way the order takes, so that no node is looked at twice;
-// both ask for the nodes of a form with these sets, and for one of the 16 variables.
+// The leaf nodes that a variable is generated from: document 01's order with document 02's last step, plain and denied. Each of the two calls itself with a
+// child, whose number is below its node's, and the other one through a not. The sets of `generate` say which way the order takes, so that no node is looked at
+// twice; both ask for the nodes of a form with these sets, and for one of the 16 variables.
 use crate::bits;
 use crate::generate;
 use query::NODES;

@@ -260,11 +260,11 @@ plain-finds φ n x g = reflects-false (reflects-none φ n x) (λ m. m (generated
 pub denied-finds : (φ : Fmla) (n x : ℕ) → Generated x (neg φ) → is-none (denied φ n x) ≡ false
 denied-finds φ n x g = plain-finds (neg φ) n x g
 
--- Where the left child of an and equates x with no other variable, the order is document 01's.
 first-nothing : (a : Leaves) → first a none ≡ a
 first-nothing none = refl
 first-nothing (some l) = refl
 
+-- Where the left child of an and equates x with no other variable, the order is document 01's.
 pub plain-as-before : (φ ψ : Fmla) (n x : ℕ) → ((y : ℕ) → x ≢ y → ¬ Equates φ x y) → plain (conj φ ψ) n x ≡ first (plain φ n x) (first (plain ψ (n + size φ) x) (through (equated ψ x) (λ y. plain φ n y)))
 plain-as-before φ ψ n x m = go (equated-view φ x)
   where

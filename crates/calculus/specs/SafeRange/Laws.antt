@@ -1,4 +1,4 @@
--- Laws of safe-range: propagation keeps generation and the range of the bound variables (000: gen_Gen_cp, rrb_cp); so what 000 judges safe-range is
+-- Laws of safe-range: propagation keeps generation and the range of the bound variables (000: gen_Gen_cp, rrb_cp, over the wider relation); so what 000 judges safe-range is
 -- safe-range, and so is what was before document 02. Each clause goes by the view of a clause of cp; the range of the bound variables, a claim about all nodes, is
 -- first taken apart by the shape of the formula.
 use Prim.Native.Nat.{ℕ, _+_}
@@ -22,7 +22,7 @@ use Rattle.calculus.specs.Ranging.Laws.{origin}
 use Rattle.calculus.specs.Generators.Laws.{generated-decided}
 use Rattle.calculus.specs.SafeRange.{HasNode, Sr, BoundRanged, SafeRange, SafeBefore}
 
--- ---- a variable generated in a query is generated in its form (000: gen_Gen_cp)
+-- ---- a variable generated in a query is generated in its form (000: gen_Gen_cp, over the wider relation)
 
 not-in-true : {x : ℕ} → ¬ Ranged x (truth true)
 not-in-true g = origin (g .1)
@@ -137,7 +137,7 @@ eq-conj-generated {x} {y} φ ψ n q g = subst⁻¹ (λ χ. Ranged x (cp-conj χ 
     no-truth-value (inl e) = ap is-truth e
     no-truth-value (inr e) = ap is-truth e
 
--- 000: gen_Gen_cp.
+-- 000: gen_Gen_cp, over the wider relation.
 pub ranged-cp : {x : ℕ} {φ : Fmla} {G : List Fmla} → RangedBy x φ G → Ranged x (cp φ)
 ranged-cp ranged-false = in-false
 ranged-cp (ranged-atom (ap-rel {r} {ts}) i) = (rel r ts ∷ [], ranged-atom ap-rel i)
@@ -153,7 +153,7 @@ ranged-cp (ranged-conj-eq′ {x} {y} {φ} d) = conj-eq′-generated x y (cp φ) 
 ranged-cp (ranged-exists {y = y} {φ} n d) = exists-generated (exists-view y (cp φ)) n (ranged-cp d)
 ranged-cp (ranged-eq-conj {φ = φ} {ψ} n q d) = eq-conj-generated φ (cp ψ) n q (ranged-cp d)
 
--- ---- the range of the bound variables, by the shape of the formula (000: rrb_simps)
+-- ---- the range of the bound variables, by the shape of the formula (000: rrb_simps, over the wider relation)
 
 -- The same of a list of nodes, so that BoundRanged φ is Bounded (nodes φ 0).
 abbrev Bounded : List Node → Type 0
@@ -215,7 +215,7 @@ bound-exists y φ = (λ p. (p y φ root, bounded-left (node (0 + size φ) (exist
     root : HasNode (exists y φ) (exists y φ)
     root = has-right (nodes φ 0) (0 + size φ, here refl)
 
--- ---- it passes to the form (000: rrb_cp)
+-- ---- it passes to the form (000: rrb_cp, over the wider relation)
 
 eq-bound : (x : ℕ) (t : Term) → BoundRanged (cp-eq x t)
 eq-bound x (con p) = bound-eq x (con p)
@@ -240,7 +240,7 @@ exists-bound : {z : ℕ} {φ χ : Fmla} → ExistsView z φ χ → Ranged z φ �
 exists-bound {z} {φ} (kept i) p = bound-exists z φ .1 p
 exists-bound (dropped n) p = p .1
 
--- 000: rrb_cp.
+-- 000: rrb_cp, over the wider relation.
 pub bound-cp : (φ : Fmla) → BoundRanged φ → BoundRanged (cp φ)
 bound-cp (truth b) p = p
 bound-cp (rel r ts) p = p

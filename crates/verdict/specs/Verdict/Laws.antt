@@ -14,7 +14,7 @@ use Rattle.calculus.specs.Sets.Laws.{in-nil, reflects-member}
 use Rattle.calculus.specs.Lists.{padded}
 use Rattle.calculus.specs.Lists.Laws.{getD-padded}
 use Rattle.calculus.specs.Reflects.{Reflects}
-use Rattle.calculus.specs.Reflects.Laws.{reflected, reflects-map}
+use Rattle.calculus.specs.Reflects.Laws.{reflects-true, reflected, reflects-map}
 use Rattle.calculus.specs.Formula.{Fmla, fv, size, node, nodes}
 use Rattle.calculus.specs.Formula.Laws.{node-below}
 use Rattle.calculus.specs.Propagation.{cp}
@@ -23,7 +23,8 @@ use Rattle.calculus.specs.Ranging.{Ranged}
 use Rattle.calculus.specs.Generators.{Leaves, columns, plain, leaves, unranged-node, verdict, safe}
 use Rattle.calculus.specs.Sources.{LeavesRight, generated-by, not-generated, AtNode}
 use Rattle.calculus.specs.Generators.Laws.{plain-right, leaf-atom}
-use Rattle.calculus.specs.SafeRange.{SafeRange, Unranged}
+use Rattle.calculus.specs.SafeRange.{SafeRange, Unranged, SafeBefore}
+use Rattle.calculus.specs.SafeRange.Laws.{safe-before}
 use Rattle.calculus.specs.SafeRange.Result.{columns-members, ungenerated-means, unranged-means, safe-reflects}
 use Rattle.calculus.specs.Propagation.Laws.{size-cp}
 use Rattle.causes.specs.declared.Answer.the-variants.{Done, Refused}
@@ -179,6 +180,10 @@ module _ (ws bs : List ℕ) (done : read-of ws bs .answer ≡ Done) where
   -- The verdict is safe-range of 000, widened as documents 01 and 02 say, and it is that both reports are zero.
   pub verdict-safe : Reflects (SafeRange (formula (read-of ws bs .query))) (verdict-of ws bs .safe)
   verdict-safe = subst⁻¹ (λ v. Reflects (SafeRange (formula (read-of ws bs .query))) (v .safe)) (verdict-done ws bs done) (safe-reflects (formula (read-of ws bs .query)))
+
+  -- A query that was safe-range before document 02 is judged so.
+  pub verdict-safe-before : SafeBefore (formula (read-of ws bs .query)) → verdict-of ws bs .safe ≡ true
+  verdict-safe-before s = reflects-true verdict-safe (safe-before (formula (read-of ws bs .query)) s)
 
   pub verdict-safe-zero : verdict-of ws bs .safe ≡ (eqb (verdict-of ws bs .ungenerated) 0 && eqb (verdict-of ws bs .unranged) 0)
   verdict-safe-zero =

@@ -265,22 +265,20 @@ module _ (t : ℕ) where
       let at = plain-by c in let g = plain-start (at .before) .pre in let n = plain-node (at .before) in
       equated-shown g (inl (kind-read n (at .match .keys3))) (rw (n .reads) at (c .before .equated .ensures)) (c .is-in4 .ensures) e
 
-  -- Where it does, the other side of that equality is a variable, and the left child generates it.
-  plain-by-right :
-      (c : plain-lts.Then4 (plain-claims t) (plain-at t) plain.Post) →
-      let s = plain-start (plain-by (c .before) .before) in
-      let y = other-side (getD (s .args .nodes .now) (right (word (s .pre))) 0) (s .args .x) in
-      (y < 16) × (plain-nodes (s .args .nodes .now) (s .args .i) (s .args .x) ≡ plain-nodes (s .args .nodes .now) (left (word (s .pre))) y)
+  -- By the equality on one side, x has the nodes from which the other side generates the variable that it is equated with.
+  abbrev Carried : plain-lts.After-is-in4 (plain-claims t) (plain-at t) plain.Post → (ℕ → ℕ) → (ℕ → ℕ) → Type 0
+  Carried c side other =
+      let s = plain-start (plain-by c .before) in let ns = s .args .nodes .now in
+      let y = other-side (getD ns (side (word (s .pre))) 0) (s .args .x) in
+      (y < 16) × (plain-nodes ns (s .args .i) (s .args .x) ≡ plain-nodes ns (other (word (s .pre))) y)
+
+  -- Where the fourth test holds, that is the equality on the right; else the one on the left.
+  plain-by-right : (c : plain-lts.Then4 (plain-claims t) (plain-at t) plain.Post) → Carried (c .before) right left
   plain-by-right c =
       let past = plain-third (c .before) in let at = plain-and (past .before) in
       law (plain-start (at .before) .pre) order.nodes-and-by-right (kind-read (plain-node (at .before)) (at .match .keys3)) (plain-not-left (past .before .before .before)) (plain-neither past) (plain-told (c .before) (c .if4 .taken))
 
-  -- Where it doesn't, x comes through the equality on the left, and the right child generates its other side.
-  plain-by-left :
-      (c : plain-lts.Else4 (plain-claims t) (plain-at t) plain.Post) →
-      let s = plain-start (plain-by (c .before) .before) in
-      let y = other-side (getD (s .args .nodes .now) (left (word (s .pre))) 0) (s .args .x) in
-      (y < 16) × (plain-nodes (s .args .nodes .now) (s .args .i) (s .args .x) ≡ plain-nodes (s .args .nodes .now) (right (word (s .pre))) y)
+  plain-by-left : (c : plain-lts.Else4 (plain-claims t) (plain-at t) plain.Post) → Carried (c .before) left right
   plain-by-left c =
       let past = plain-third (c .before) in let at = plain-and (past .before) in
       law (plain-start (at .before) .pre) order.nodes-and-by-left (kind-read (plain-node (at .before)) (at .match .keys3)) (plain-generates (at .before)) (plain-not-left (past .before .before .before)) (plain-neither past) (plain-told (c .before) (c .if4 .left))
