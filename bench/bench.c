@@ -23,8 +23,8 @@
 #include <time.h>
 
 // The reach: the seconds that any query may take, and the geometric mean over all of them, in times of SQLite.
-static const double LONGEST = 100e-3;
-static const double MEAN = 8.0;
+static const double LONGEST = 20e-3;
+static const double MEAN = 1.6;
 
 static void die(const char *what, const char *which) {
     fprintf(stderr, "bench: %s: %s\n", which, what);
@@ -903,7 +903,7 @@ static bool report_answers(const char *part) {
     Total all = {0};
     for (int fine = 0; fine < 2; fine++) report_store(fine, part, &all);
     bool reached = all.longest <= LONGEST && (*part || mean_of(&all) <= MEAN);  // the mean is judged over all queries only
-    printf("Over both: geometric mean %.2f times SQLite (at most %.0f), longest %.3f ms (at most %.0f).\n", mean_of(&all), MEAN, 1e3 * all.longest,
+    printf("Over both: geometric mean %.2f times SQLite (at most %.1f), longest %.3f ms (at most %.0f).\n", mean_of(&all), MEAN, 1e3 * all.longest,
            1e3 * LONGEST);
     printf("For endless queries SQLite decides whether a row with a number that no record has is there.\n");
     printf("Rows %s SQLite's; the reach is %s.\n\n", all.faults ? "DIFFER from" : "equal", reached ? "kept" : "MISSED");

@@ -648,6 +648,224 @@ def random_join_cases(rng, number):
         answer_case(f"j{i}", s, records, data, room_for(rng), rng.random() < 0.1)
 
 
+# ---- answers to shapes that the steps of the search over goals are for; formulas as trees, as random_tree makes them
+
+WIDE = [1, 2, 3, 4] + [0] * 12  # relation r has width r + 1
+
+
+def leaf(relation, *terms):
+    return (record(relation, *terms),)
+
+
+def same(x, y):
+    return (equality(x, y),)
+
+
+def denied(t):
+    return (3 << 29, t)
+
+
+def ands(*parts):
+    """The parts joined by and, to the right."""
+    return parts[0] if len(parts) == 1 else (4 << 29, parts[0], ands(*parts[1:]))
+
+
+def ors(*parts):
+    return parts[0] if len(parts) == 1 else (5 << 29, parts[0], ors(*parts[1:]))
+
+
+def under(variables, t):
+    """A formula under an exists of each variable, the first outermost."""
+    for x in reversed(variables):
+        t = (6 << 29 | x << 25, t)
+    return t
+
+
+def in_order(t, first=0):
+    """The nodes of a tree, numbered from first on: those of each child from the left, then the node."""
+    nodes, children = [], []
+    for c in t[1:]:
+        nodes += in_order(c, first + len(nodes))
+        children.append(first + len(nodes) - 1)
+    shifts = [19] if t[0] >> 29 == 6 else [23, 17]
+    return nodes + [t[0] | sum(c << shift for c, shift in zip(children, shifts))]
+
+
+def named_goal_cases():
+    x, y, z, w = range(4)
+
+    def g(name, t, expect, *records, constants=()):
+        """The rows, or None for endless, over these records: a relation and its values each."""
+        held = sorted((*r, *[0] * (5 - len(r))) for r in records)
+        text = " endless" if expect is None else account.rows_text(expect)
+        answer_case(name, Store(WIDE, held), held, words_bytes(in_order(t), constants), lambda size: size + 1, False, text)
+
+    path = (1, 1, 2), (1, 2, 3), (1, 3, 3)
+    # a variable that an exists binds and another conjunct has free, or binds too
+    g("1(x,y) and exists y 1(y,x)", ands(leaf(1, x, y), under([y], leaf(1, y, x))), [[2, 3], [3, 3]], *path)
+    g("exists x of exists y 1(x,y) and exists y 1(y,x)", under([x], ands(under([y], leaf(1, x, y)), under([y], leaf(1, y, x)))), [[]], *path[:2])
+    inner = under([x], leaf(1, y, x))
+    g("exists x (1(x,y) and 0(x) and exists x 1(y,x))", under([x], ands(leaf(1, x, y), leaf(0, x), inner)), [[2]], (0, 1), *path)
+    g("exists x (x = 1 and exists x 1(x,y))", under([x], ands(same(x, 16), under([x], leaf(1, x, y)))), [[2], [3]], *path, constants=[1])
+    two = ands(ors(same(x, 16), same(x, 17)), under([y], ands(leaf(1, x, y), leaf(0, y))))
+    g("x = 3 or x = 5, beside exists x x = 9", ands(two, under([x], same(x, 18))), [[5]], (0, 1), (1, 3, 2), (1, 5, 1), constants=[3, 5, 9])
+    # a variable twice in a record, and others of its terms known or not
+    g("2(x,y,x)", leaf(2, x, y, x), [[1, 5], [4, 4]], (2, 1, 5, 1), (2, 1, 5, 2), (2, 4, 4, 4))
+    g("exists x 2(x,y,x)", under([x], leaf(2, x, y, x)), [[5]], (2, 1, 5, 1), (2, 1, 7, 2), (2, 7, 7, 1))
+    g("exists y (0(x) and 3(x,y,y,x))", under([y], ands(leaf(0, x), leaf(3, x, y, y, x))), [[1]], (0, 1), (0, 2), (3, 1, 4, 4, 1), (3, 2, 4, 5, 2), (3, 2, 6, 6, 3))
+    # ors under exists
+    either_way = under([y, z], ands(ors(leaf(1, x, y), leaf(1, y, z)), ors(leaf(1, z, x), leaf(0, y))))
+    g("two ors under exists", either_way, [[1], [2], [3]], (0, 5), (1, 1, 2), (1, 2, 1), (1, 3, 5))
+    g("two ors under exists, endless", either_way, None, (0, 5), (1, 3, 5), (1, 5, 3))
+    g("exists y ((0(x) or 1(x,y)) and not 0(y))", under([y], ands(ors(leaf(0, x), leaf(1, x, y)), denied(leaf(0, y)))), [[1], [4]], (0, 1), (1, 2, 1), (1, 4, 5))
+    g("exists y (exists z 2(x,y,z) or 1(x,y))", under([y], ors(under([z], leaf(2, x, y, z)), leaf(1, x, y))), [[1], [4]], (1, 4, 5), (2, 1, 5, 6))
+    neither = denied(ands(denied(leaf(0, y)), denied(same(y, x))))
+    g("ands denied under exists", ands(leaf(0, x), under([y], ands(denied(ands(leaf(0, y), leaf(1, x, y))), neither))), [[2]], (0, 1), (0, 2), (1, 1, 1), (1, 1, 2))
+    # denied exists with several unknowns
+    every = denied(under([w], ands(leaf(0, w), denied(leaf(3, x, y, z, w)))))
+    g("3(x,y,z,w) for all w of 0", every, [[5, 6, 7]], (0, 1), (0, 2), (3, 5, 6, 7, 1), (3, 5, 6, 7, 2), (3, 5, 6, 8, 1))
+    g("3(x,y,z,w) for all w of none", every, None, (3, 5, 6, 7, 1))
+    g("x = z or 1(x,y), for all z", denied(under([z], denied(ors(same(x, z), leaf(1, x, y))))), [[1, 2], [3, 3]], (1, 1, 2), (1, 3, 3))
+    no_path = denied(under([y, z], ands(leaf(1, x, y), leaf(1, y, z))))
+    g("0(x) and no 1(x,y) and 1(y,z)", ands(leaf(0, x), no_path), [[2], [3]], (0, 1), (0, 2), (0, 3), (1, 1, 2), (1, 2, 3))
+    # hidden variables that nobody else mentions
+    g("both hide y and z", ands(under([y, z], leaf(2, x, y, z)), under([z, y], leaf(2, y, x, z))), [[1], [2]], (2, 1, 2, 8), (2, 2, 5, 9), (2, 3, 1, 9))
+    g("a hidden record that isn't held", ands(leaf(0, x), under([y, z], leaf(1, y, z))), [], (0, 1), (0, 2))
+    twenty = [(1, v, v + 1) for v in range(0, 42, 2)]
+    g("a path among 22 records", under([x, y, z], ands(leaf(1, y, x), leaf(1, x, z))), [[]], *twenty, (1, 41, 50))
+    # chains of equalities
+    g("x = y = z = w, hidden, and 0(w)", ands(under([y, z], ands(same(x, y), same(z, y), same(z, w))), leaf(0, w)), [[3, 3], [8, 8]], (0, 3), (0, 8))
+    g("7 = x = y = z = 9", ands(same(x, y), same(y, z), same(z, 17), same(x, 16)), [], constants=[7, 9])
+    g("x = y = z, y hidden", under([y], ands(same(x, y), same(z, y))), None, (0, 3))
+    # tokens
+    g("1(y,y) for all y = x", denied(under([y], ands(same(x, y), denied(leaf(1, y, y))))), [[3]], *path)
+    apart = under([y, z], ands(denied(same(y, z)), denied(leaf(0, y)), denied(leaf(1, z, z)), denied(same(z, x))))
+    g("y and z that no record names", ands(leaf(0, x), apart), [[3]], (0, 3))
+    g("x and z that no record names", apart, None, (0, 3))
+
+
+def about(rng, names, x):
+    """A record or an equality in which x stands."""
+    other = lambda: rng.choice(names * 4 + [16, 17])
+    if rng.random() < 0.2:
+        return same(*rng.sample([x, rng.choice(names)], 2)) if rng.random() < 0.7 else same(x, 16)
+    relation = rng.choice([0, 1, 1, 1, 2, 3])
+    return leaf(relation, *rng.sample([x] + [other() for _ in range(relation)], relation + 1))
+
+
+def perhaps_denied(rng, t, share=0.2):
+    return denied(t) if rng.random() < share else t
+
+
+def bracketed(rng, join, parts):
+    """The parts joined by two, in any order and with any brackets."""
+    parts = rng.sample(parts, len(parts))
+    while len(parts) > 1:
+        at = rng.randrange(len(parts) - 1)
+        parts[at:at + 2] = [join(*parts[at:at + 2])]
+    return parts[0]
+
+
+def some_names(rng, names, least=1):
+    return rng.sample(names, rng.randint(min(least, len(names)), len(names)))
+
+
+def clash(rng, names):
+    """An exists whose variable another conjunct has free or binds too."""
+    x = rng.choice(names)
+    parts = [under([x], bracketed(rng, ands, [about(rng, names, rng.choice([x, x, *names])) for _ in range(rng.choice([1, 2]))]))]
+    for _ in range(rng.choice([1, 1, 2])):
+        parts.append(perhaps_denied(rng, under(rng.choice([[], [x], [rng.choice(names)]]), about(rng, names, x))))
+    return bracketed(rng, ands, parts)
+
+
+def twice(rng, names):
+    """A variable twice in a record: known, or another term of it, or nothing."""
+    x, relation = rng.choice(names), rng.choice([1, 2, 2, 3, 3])
+    t = leaf(relation, *rng.sample([x, x] + [rng.choice(names * 2 + [16]) for _ in range(relation - 1)], relation + 1))
+    others = rng.choice([[], [same(x, 16)], [leaf(0, x)], [about(rng, names, rng.choice(names))], [same(x, rng.choice(names))]])
+    return under(rng.choice([[], [x], some_names(rng, names)]), bracketed(rng, ands, [perhaps_denied(rng, t, 0.15), *others]))
+
+
+def ors_under_exists(rng, names):
+    sides = lambda x: bracketed(rng, ors, [perhaps_denied(rng, about(rng, names, rng.choice([x, *names])), 0.1) for _ in range(rng.choice([2, 2, 3]))])
+    bound = some_names(rng, names)
+    parts = [sides(x) for x in bound[:2]] + [perhaps_denied(rng, about(rng, names, bound[0])) for _ in range(rng.choice([0, 1, 1, 2]))]
+    return under(bound, bracketed(rng, ands, parts))
+
+
+def for_all(rng, names):
+    """A denied exists: of what isn't so, or of records joined."""
+    bound = some_names(rng, names)[:2]
+    guards = [leaf(0, x) for x in bound if rng.random() < 0.6]
+    terms = rng.sample(names, len(names)) + [rng.choice(names) for _ in range(3)]
+    relation = rng.choice([1, 2, 2, 3])
+    body = rng.choice([leaf(relation, *terms[:relation + 1]), ors(about(rng, names, bound[0]), about(rng, names, rng.choice(names)))])
+    joined_records = bracketed(rng, ands, [about(rng, names, x) for x in bound] + [body])
+    return denied(under(bound, joined_records if rng.random() < 0.3 else bracketed(rng, ands, guards + [denied(body)])))
+
+
+def hides(rng, names):
+    """Records most of whose variables are bound, and stand nowhere else in what is bound."""
+    def part():
+        relation = rng.choice([1, 1, 2, 3])
+        terms = (rng.sample(names, len(names)) + rng.choices(names + [16], k=3))[:relation + 1]
+        bound = [x for x in sorted(set(terms) & set(names)) if rng.random() < 0.7]
+        return perhaps_denied(rng, under(rng.sample(bound, len(bound)), leaf(relation, *rng.sample(terms, relation + 1))), 0.15)
+
+    return bracketed(rng, ands, [part() for _ in range(rng.choice([1, 2, 2, 3]))])
+
+
+def equals(rng, names):
+    """A chain of equalities: nothing, a constant, a record or an or at one of its variables."""
+    along = some_names(rng, names, 2)
+    parts = [perhaps_denied(rng, same(*rng.sample(pair, 2)), 0.1) for pair in zip(along, along[1:] or along)]
+    x = rng.choice(along)
+    parts += rng.choice([[], [same(x, 16)], [leaf(0, x)], [about(rng, names, x)], [ors(same(x, 16), about(rng, names, x))], [same(x, 16), same(along[0], 17)]])
+    return under(some_names(rng, names)[1:], bracketed(rng, ands, parts))
+
+
+def unbounded(rng, names):
+    """Mostly what is not so, of variables that no record gives: a number that nothing names decides many of these."""
+    parts = [perhaps_denied(rng, about(rng, names, rng.choice(names)), 0.7) for _ in range(rng.choice([1, 2, 3, 4]))]
+    return perhaps_denied(rng, under(some_names(rng, names)[1:], bracketed(rng, rng.choice([ands, ands, ors]), parts)), 0.3)
+
+
+SHAPES = [clash, twice, ors_under_exists, for_all, hides, equals, unbounded]
+
+
+def goal_query(rng, shape, names):
+    """The bytes of a query of a shape, also beside one of another; under exists, or with a record for each variable."""
+    t = shape(rng, names)
+    if rng.random() < 0.5:
+        t = bracketed(rng, rng.choice([ands, ands, ands, ors]), [t, rng.choice(SHAPES)(rng, names)])
+    t = perhaps_denied(rng, t, 0.1)
+    if rng.random() < 0.4 or len(names) > 4:
+        t = under(some_names(rng, names), t)
+    if rng.random() < 0.5:
+        t = bracketed(rng, ands, [t] + [leaf(0, x) if rng.random() < 0.6 else leaf(1, *rng.sample([x, names[0]], 2)) for x in names[:4]])
+    return random_order(rng, t)
+
+
+def random_goal_cases(rng, number):
+    for i in range(number):
+        values = rng.choice([[0, 1], [7, 9], [0, 7, 4294967295], [1, 7, 8]])
+        share = rng.choice([0.2, 0.5, 0.8, 0.95])
+        records = [(0, v, 0, 0, 0) for v in values if rng.random() < 0.7]
+        records += [(1, v, w, 0, 0) for v in values for w in values if rng.random() < share]
+        records += [(r, *rng.choices(values, k=r + 1), *[0] * (3 - r)) for r in rng.choices([2, 3], k=rng.choice([0, 4, 8, 16]))]
+        if rng.random() < 0.1:  # more records than the search goes through before it tries numbers
+            values = [1, 3, 4, 7, 9]
+            records += [(1, v, w, 0, 0) for v in values for w in values if rng.random() < 0.95]
+        s = Store(WIDE, sorted(set(records)))
+        names = rng.sample(range(16), rng.choice([2, 3, 3, 4] if len(values) < 5 else [2, 3]))
+        make = lambda: words_bytes(goal_query(rng, SHAPES[i % len(SHAPES)], names), [rng.choice(values), rng.choice(values + [5])])
+        data = make()
+        if rng.random() < 0.6:
+            data = next(filter(lambda query: account.found(s, query, False)[1], (make() for _ in range(4))), data)
+        answer_case(f"g{i}", s, s.held(), data, room_for(rng), rng.random() < 0.1)
+
+
 # ---- runs of a standing list
 
 def named_run_cases():
@@ -839,7 +1057,6 @@ def store_cases():
     store_case("r", "removal: 16 of none", Store(WIDTHS_S, []), [], (1, 7, 0, 0, 0), expect=16)
 
     full = Store(WIDTHS_S, [(0, i, i % 5, 0, 0) for i in range(256)])
-    store_case("s", "256 records", full, full.places, expect=0)
     store_case("p", "put: 15 at 256 records", full, full.places, (1, 1, 0, 0, 0), expect=15)
     answer_case("answer over 256 records", full, full.places, words_bytes([equality(0, 16), R0, both(0, 1)], [200]), 2, True, " rows 1 200 0")
     most = Store(WIDTHS_S, [(0, i, 1, 0, 0) for i in range(1, 256)])
@@ -868,6 +1085,7 @@ def fill_cases():
 def large_store_cases():
     """What is left of 256 and 257 records."""
     full = Store(WIDTHS_S, [(0, i, i % 5, 0, 0) for i in range(256)])
+    store_case("s", "256 records", full, full.places, expect=0)
     store_case("p", "put: 14 at 256 records", full, full.places, (0, 255, 0, 0, 0), expect=14)
     store_case("r", "removal at 256 records", full, full.places, (0, 100, 0, 0, 0), expect=0)
     many = [(0, i, 0, 0, 0) for i in range(257)]
@@ -1032,6 +1250,7 @@ def stored_cases():
     named_query_cases()
     named_verdict_cases()
     named_answer_cases()
+    named_goal_cases()
     named_run_cases()
     store_cases()
     fill_cases()

@@ -2,7 +2,7 @@
 //
 // A query's way: read (the crate `query`), propagated into its form (`form`), then the form's nodes judged from the leaves: which variables each of them
 // generates, plainly and as denied (`generate`), and from which leaf nodes (`source`). The reports are sets of nodes and variables as numbers (`bits`).
-mod bits;
+pub mod bits;
 pub mod form;
 mod generate;
 mod report;
