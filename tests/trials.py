@@ -3,10 +3,10 @@
 
 trials.py             compares crates/trials/stdin and crates/trials/stdout with the stored cases; exit status 1 where they differ
 trials.py --write     writes both files
-trials.py --random N  runs the built program on N batches of random queries, verdicts, stores, answers and runs, on the verdicts of all formulas of at most
-                      five nodes over seven leaves, on the answers of all such formulas over six leaves and six stores, for each node on a
-                      verdict that names it alone, on verdicts with an equality on either side of an and, and on answers of many rows, and
-                      compares; exit status 1 where they differ
+trials.py --random N  runs the built program on N batches of random queries, verdicts, stores, answers (some of them to shapes that the steps of the
+                      search are for) and runs, on the verdicts of all formulas of at most five nodes over seven leaves, on the answers of all
+                      such formulas over six leaves and six stores, for each node on a verdict that names it alone, on verdicts with an equality
+                      on either side of an and, and on answers of many rows, and compares; exit status 1 where they differ
 """
 import pathlib
 import random
