@@ -111,8 +111,8 @@ def compare(where, chosen):
     return show_some(where, [fault for batch in batches(chosen) for fault in batch_faults(batch)])
 
 
-RANDOM = [(cases.random_query_cases, 400), (cases.random_store_cases, 40), (cases.random_verdict_cases, 400), (cases.random_answer_cases, 200),
-          (cases.random_prenex_cases, 100), (cases.random_join_cases, 300), (cases.random_goal_cases, 210), (cases.random_run_cases, 6)]
+RANDOM = [(cases.random_query_cases, 400), (cases.random_store_cases, 40), (cases.random_verdict_cases, 400), (cases.random_answer_cases, 300),
+          (cases.random_prenex_cases, 100), (cases.random_join_cases, 400), (cases.random_goal_cases, 210), (cases.random_run_cases, 6)]
 
 
 def runs(number):
