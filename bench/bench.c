@@ -8,10 +8,11 @@
 // judges the list, finds its rows anew and writes those that joined and left; SQLite makes the same change, by a prepared statement, and runs the query again.
 // The rows that joined and left are compared with the difference of SQLite's rows before and after.
 //
-// There are two stores, both with 256 records and the same joins: in the coarse one measurements are round numbers that recur, in the fine one each is its own.
+// There are three stores, each with 256 records. The coarse one and the fine one have the same joins: in the coarse one measurements are round numbers that
+// recur, in the fine one each is its own. The network has stations, the links between them and their pumps, and lines of its own.
 //
-// Usage: bench [changes] [PART], where only the queries whose name has this part are run, and with the word only their changes. It fails where rows differ or
-// the reach is missed.
+// Usage: bench [changes] [PART], where only the queries whose name has this part are run, and with the word only their changes. The names of the network's lines
+// start with "network". It fails where rows differ or the reach is missed.
 #define _POSIX_C_SOURCE 200809L
 #include <math.h>
 #include <sqlite3.h>
@@ -22,9 +23,9 @@
 #include <string.h>
 #include <time.h>
 
-// The reach: the seconds that any query may take, and the geometric mean over all of them, in times of SQLite.
-static const double LONGEST = 20e-3;
-static const double MEAN = 1.6;
+// The reach: the seconds that any query may take, and the geometric mean over the coarse and the fine store, in times of SQLite.
+static const double LONGEST = 10e-3;
+static const double MEAN = 0.8;
 
 static void die(const char *what, const char *which) {
     fprintf(stderr, "bench: %s: %s\n", which, what);
@@ -234,8 +235,9 @@ static size_t pack(const Formula *f, uint8_t *bytes) {
 
 // ---- Stores -----------------------------------------------------------------------------------------------------------------------------------------------
 
-// The tables, by the number of their relation.
-enum { FEATURES, JOINTS, WELDS, READINGS, DIGS, BENDS, CREWS, TRAINED, TASKS, REPAIRS, TABLES };
+// The stores, and the tables by the number of their relation: those from LINKS on are the network's, the others those of the coarse and the fine store.
+enum { COARSE, FINE, NETWORK };
+enum { FEATURES, JOINTS, WELDS, READINGS, DIGS, BENDS, CREWS, TRAINED, TASKS, REPAIRS, LINKS, STATIONS, PUMPS, TABLES };
 
 static const struct {
     const char *name;
@@ -252,7 +254,12 @@ static const struct {
     [TRAINED] = {"trained", {"crew", "task"}, 2, 6},
     [TASKS] = {"tasks", {"task"}, 1, 3},
     [REPAIRS] = {"repairs", {"feature", "day"}, 2, 4},
+    [LINKS] = {"links", {"station", "towards"}, 2, 128},
+    [STATIONS] = {"stations", {"station"}, 1, 64},
+    [PUMPS] = {"pumps", {"station", "pump"}, 2, 64},
 };
+
+static bool has_table(int store, uint32_t table) { return (store == NETWORK) == (LINKS <= table); }
 
 // The numbers of things.
 static uint32_t crew_number(uint32_t i) { return 1 + i; }
@@ -262,8 +269,10 @@ static uint32_t task_number(uint32_t i) { return 11 + i; }
 static uint32_t joint_number(uint32_t i) { return 400 + i; }
 static uint32_t weld_number(uint32_t i) { return 700 + i; }
 static uint32_t feature_number(uint32_t i) { return 1000 + i; }
+static uint32_t station_number(uint32_t i) { return 2000 + i; }
+static uint32_t pump_number(uint32_t i) { return 3000 + i; }
 
-// A number below n for a column of the i-th record of a table: it looks random, and is the same in every run and for both stores.
+// A number below n for a column of the i-th record of a table: it looks random, and is the same in every run and for every store.
 static uint32_t drawn(uint32_t table, uint32_t i, uint32_t column, uint32_t n) {
     uint32_t h = (table << 16 | i << 4 | column) * 2654435761u;
     h = (h ^ h >> 15) * 2246822519u;
@@ -275,6 +284,14 @@ static uint32_t drawn(uint32_t table, uint32_t i, uint32_t column, uint32_t n) {
 static uint32_t measured(bool fine, uint32_t table, uint32_t i, uint32_t column, uint32_t step, uint32_t n) {
     if (fine) return 100000 + (table << 10 | i << 2 | column) * 7919 % 65536;
     return step * (1 + drawn(table, i, column, n));
+}
+
+// The i-th link: two go out of each station, to two others.
+static Record link_record(uint32_t i) {
+    uint32_t stations = tables[STATIONS].records, from = i / 2;
+    uint32_t first = drawn(LINKS, 2 * from, 1, stations - 1), second = drawn(LINKS, 2 * from + 1, 1, stations - 2);
+    uint32_t further = i % 2 == 0 ? first : second + (first <= second);
+    return (Record){LINKS, {station_number(from), station_number((from + 1 + further) % stations)}};
 }
 
 // The i-th record of a table.
@@ -294,6 +311,9 @@ static Record record(bool fine, uint32_t table, uint32_t i) {
     case CREWS: return (Record){table, {crew_number(i)}};
     case TRAINED: return (Record){table, {crew_number(trained[i][0]), task_number(trained[i][1])}};
     case TASKS: return (Record){table, {task_number(i)}};
+    case LINKS: return link_record(i);
+    case STATIONS: return (Record){table, {station_number(i)}};
+    case PUMPS: return (Record){table, {station_number(DRAWN(0, tables[STATIONS].records)), pump_number(i)}};
     default: return (Record){table, {feature_number(repaired[i]), MEASURED(1, 1, 28)}};
     }
 #undef DRAWN
@@ -308,15 +328,16 @@ static int by_order(const void *a, const void *b) {
     return 0;
 }
 
-// A full store: the coarse one or the fine one.
-static Store filled(bool fine) {
+// A full store.
+static Store filled(int which) {
     Record records[PLACES];
     Store store = {.count = 0};
     for (uint32_t r = 0; r < TABLES; r++) {
+        if (!has_table(which, r)) continue;
         store.widths[r] = (uint8_t)tables[r].width;
         for (uint32_t i = 0; i < tables[r].records; i++) {
             if (store.count == PLACES) die("too many records", tables[r].name);
-            records[store.count++] = record(fine, r, i);
+            records[store.count++] = record(which == FINE, r, i);
         }
     }
     qsort(records, store.count, sizeof(Record), by_order);
@@ -366,7 +387,7 @@ typedef struct {
     const char *name;
     const Formula *formula;
     const char *sql;      // its rows; of an endless query a single 1 where it is endless, and 0 where it is not
-    bool columns, endless;
+    bool columns, endless, network;
 } Query;
 
 static Query queries[128];
@@ -377,17 +398,21 @@ static void add(Query q) {
     queries[query_count++] = q;
 }
 
-static bool has_query(const char *part) {
+// Whether a query is one of a store, and its name has the part.
+static bool is_chosen(const Query *q, int store, const char *part) { return q->network == (store == NETWORK) && strstr(q->name, part); }
+
+static bool has_query(int store, const char *part) {
     for (size_t i = 0; i < query_count; i++)
-        if (strstr(queries[i].name, part)) return true;
+        if (is_chosen(&queries[i], store, part)) return true;
     return false;
 }
 
 // A query with columns; one without, whose SQL has a row where it holds; and an endless one, where SQLite decides whether some row that satisfies the query has
-// a value that no record has: that is what endless means.
-static void ask(const char *name, const Formula *f, const char *sql) { add((Query){name, f, sql, true, false}); }
-static void ask_whether(const char *name, const Formula *f, const char *sql) { add((Query){name, f, sql, false, false}); }
-static void ask_endless(const char *name, const Formula *f, const char *sql) { add((Query){name, f, sql, true, true}); }
+// a value that no record has: that is what endless means. The last is a query of the network, with columns.
+static void ask(const char *name, const Formula *f, const char *sql) { add((Query){name, f, sql, true, false, false}); }
+static void ask_whether(const char *name, const Formula *f, const char *sql) { add((Query){name, f, sql, false, false, false}); }
+static void ask_endless(const char *name, const Formula *f, const char *sql) { add((Query){name, f, sql, true, true, false}); }
+static void ask_network(const char *name, const Formula *f, const char *sql) { add((Query){name, f, sql, true, false, true}); }
 
 // Variables. Columns come in this order; the sentences below bind the last four.
 static const Term A = {false, 0}, B = {false, 1}, C = {false, 2}, D = {false, 3}, E = {false, 4}, F = {false, 5}, G = {false, 6};
@@ -631,6 +656,63 @@ static void endless_lines(void) {
                 " AND NOT EXISTS (SELECT 1 FROM bends b WHERE b.joint = w.joint AND b.angle = n AND b.radius = r.sensor)))");
 }
 
+// Each station of the list linked to the next one.
+static const Formula *linked_of(int count, const Term *stations) {
+    const Formula *links[NODES];
+    for (int i = 0; i + 1 < count; i++) links[i] = rel(LINKS, stations[i], stations[i + 1]);
+    return joined(AND, count - 1, links);
+}
+#define linked(...) linked_of(LISTED(Term, __VA_ARGS__))
+
+static void path_lines(void) {
+    ask_network("network: path of 3, both ends", exists(linked(A, C, D, B), C, D),
+                "SELECT DISTINCT a.station, c.towards FROM links a JOIN links b ON b.station = a.towards JOIN links c ON c.station = b.towards ORDER BY 1, 2");
+    ask_network("network: path of 5, both ends", exists(linked(A, C, D, E, F, B), C, D, E, F),
+                "SELECT DISTINCT a.station, e.towards FROM links a JOIN links b ON b.station = a.towards JOIN links c ON c.station = b.towards"
+                " JOIN links d ON d.station = c.towards JOIN links e ON e.station = d.towards ORDER BY 1, 2");
+    ask_network("network: path of 8, its first station", exists(linked(A, B, C, D, E, F, G, M, N), B, C, D, E, F, G, M, N),
+                "SELECT DISTINCT a.station FROM links a JOIN links b ON b.station = a.towards JOIN links c ON c.station = b.towards"
+                " JOIN links d ON d.station = c.towards JOIN links e ON e.station = d.towards JOIN links f ON f.station = e.towards"
+                " JOIN links g ON g.station = f.towards JOIN links h ON h.station = g.towards ORDER BY 1");
+    ask_network("network: two links apart but not one", conj(exists(linked(A, C, B), C), neg(rel(LINKS, A, B))),
+                "SELECT DISTINCT a.station, b.towards FROM links a JOIN links b ON b.station = a.towards"
+                " WHERE NOT EXISTS (SELECT 1 FROM links c WHERE c.station = a.station AND c.towards = b.towards) ORDER BY 1, 2");
+    ask_network("network: pumps two links apart", exists(conj(rel(PUMPS, C, A), linked(C, D, E), rel(PUMPS, E, B)), C, D, E),
+                "SELECT DISTINCT p.pump, q.pump FROM pumps p JOIN links a ON a.station = p.station JOIN links b ON b.station = a.towards"
+                " JOIN pumps q ON q.station = b.towards ORDER BY 1, 2");
+}
+
+static void cycle_lines(void) {
+    ask_network("network: triangles", linked(A, B, C, A),
+                "SELECT DISTINCT a.station, b.station, c.station FROM links a JOIN links b ON b.station = a.towards"
+                " JOIN links c ON c.station = b.towards AND c.towards = a.station ORDER BY 1, 2, 3");
+    ask_network("network: cycles of 4", linked(A, B, C, D, A),
+                "SELECT DISTINCT a.station, b.station, c.station, d.station FROM links a JOIN links b ON b.station = a.towards"
+                " JOIN links c ON c.station = b.towards JOIN links d ON d.station = c.towards AND d.towards = a.station ORDER BY 1, 2, 3, 4");
+    ask_network("network: star of 4, its ends", exists(conj(linked(E, A), linked(E, B), linked(E, C), linked(E, D)), E),
+                "SELECT DISTINCT a.towards, b.towards, c.towards, d.towards FROM links a JOIN links b ON b.station = a.station"
+                " JOIN links c ON c.station = a.station JOIN links d ON d.station = a.station ORDER BY 1, 2, 3, 4");
+}
+
+// Tables that share no variable. In SQL the part that fails stands first, and CROSS JOIN keeps it there.
+static void product_lines(void) {
+    ask_network("network: no link out, beside three stations",
+                conj(rel(STATIONS, A), neg(exists(rel(LINKS, A, E), E)), rel(STATIONS, B), rel(STATIONS, C), rel(STATIONS, D)),
+                "SELECT DISTINCT a.station, b.station, c.station, d.station FROM"
+                " (SELECT station FROM stations s WHERE NOT EXISTS (SELECT 1 FROM links l WHERE l.station = s.station)) a"
+                " CROSS JOIN stations b CROSS JOIN stations c CROSS JOIN stations d ORDER BY 1, 2, 3, 4");
+    ask_network("network: three tables, the contradiction last", conj(rel(STATIONS, A), rel(PUMPS, B, C), rel(STATIONS, D), exists(rel(LINKS, E, E), E)),
+                "SELECT DISTINCT a.station, b.station, b.pump, d.station FROM (SELECT 1 WHERE EXISTS (SELECT 1 FROM links WHERE station = towards))"
+                " CROSS JOIN stations a CROSS JOIN pumps b CROSS JOIN stations d ORDER BY 1, 2, 3, 4");
+    ask_network("network: three tables, the last contradicted", conj(rel(STATIONS, A), rel(PUMPS, B, C), rel(STATIONS, D), rel(LINKS, D, D)),
+                "SELECT DISTINCT a.station, b.station, b.pump, d.station FROM"
+                " (SELECT station FROM stations s WHERE EXISTS (SELECT 1 FROM links l WHERE l.station = s.station AND l.towards = s.station)) d"
+                " CROSS JOIN stations a CROSS JOIN pumps b ORDER BY 1, 2, 3, 4");
+    ask_network("network: three tables, listed", conj(rel(LINKS, con(station_number(9)), A), rel(STATIONS, B), rel(LINKS, con(station_number(5)), C)),
+                "SELECT DISTINCT a.towards, b.station, c.towards FROM links a CROSS JOIN stations b CROSS JOIN links c"
+                " WHERE a.station = 2009 AND c.station = 2005 ORDER BY 1, 2, 3");
+}
+
 static void menu(void) {
     plain_lines();
     untouched_lines();
@@ -643,6 +725,9 @@ static void menu(void) {
     yes_no_lines();
     unsafe_lines();
     endless_lines();
+    path_lines();
+    cycle_lines();
+    product_lines();
 }
 
 // ---- SQLite -----------------------------------------------------------------------------------------------------------------------------------------------
@@ -677,7 +762,8 @@ static void insert(sqlite3 *db, uint32_t r, const uint32_t *values) {
 static sqlite3 *opened(const Store *store) {
     sqlite3 *db;
     if (sqlite3_open(":memory:", &db) != SQLITE_OK) die("cannot be opened", "SQLite");
-    for (uint32_t r = 0; r < TABLES; r++) create(db, r);
+    for (uint32_t r = 0; r < TABLES; r++)
+        if (store->widths[r]) create(db, r);
     for (size_t i = 0; i < store->count; i++) insert(db, store->relations[i], &store->values[WIDTH * i]);
     run_sql(db, "ANALYZE");
     return db;
@@ -884,28 +970,39 @@ static void report(const Query *q, const Store *store, sqlite3 *db, Total *total
     count_query(total, engine, sqlite);
 }
 
-// All queries whose name has the part, over one store.
-static void report_store(bool fine, const char *part, Total *all) {
-    Store store = filled(fine);
+// All queries of one store whose name has the part.
+static void report_store(int which, const char *part, Total *all) {
+    if (!has_query(which, part)) return;
+    Store store = filled(which);
     sqlite3 *db = opened(&store);
     Total total = {0};
     printf("%zu records, %zu distinct values\n", store.count, distinct_values(&store));
     printf("  %-46s %8s %10s %10s %8s\n", "query", "rows", "engine us", "SQLite us", "ratio");
     for (size_t i = 0; i < query_count; i++)
-        if (strstr(queries[i].name, part)) report(&queries[i], &store, db, &total);
+        if (is_chosen(&queries[i], which, part)) report(&queries[i], &store, db, &total);
     printf("  %d queries: geometric mean %.2f times SQLite, longest %.3f ms\n\n", total.queries, mean_of(&total), 1e3 * total.longest);
     sqlite3_close(db);
     count_total(all, &total);
 }
 
+// The mean and the longest query over several stores. A bound of 0 for the mean is none.
+static void print_reach(const char *over, const Total *total, double most) {
+    if (total->queries == 0) return;
+    printf("%s: geometric mean %.2f times SQLite", over, mean_of(total));
+    if (most > 0) printf(" (at most %.1f)", most);
+    printf(", longest %.3f ms (at most %.0f).\n", 1e3 * total->longest, 1e3 * LONGEST);
+}
+
 // Whether all is well: the rows are SQLite's and the reach is kept.
 static bool report_answers(const char *part) {
     Total all = {0};
-    for (int fine = 0; fine < 2; fine++) report_store(fine, part, &all);
-    bool reached = all.longest <= LONGEST && (*part || mean_of(&all) <= MEAN);  // the mean is judged over all queries only
-    printf("Over both: geometric mean %.2f times SQLite (at most %.1f), longest %.3f ms (at most %.0f).\n", mean_of(&all), MEAN, 1e3 * all.longest,
-           1e3 * LONGEST);
-    printf("For endless queries SQLite decides whether a row with a number that no record has is there.\n");
+    for (int store = COARSE; store <= FINE; store++) report_store(store, part, &all);
+    Total both = all;
+    print_reach("Over both", &both, MEAN);
+    if (both.queries) printf("For endless queries SQLite decides whether a row with a number that no record has is there.\n\n");
+    report_store(NETWORK, part, &all);
+    print_reach("Over all three", &all, 0);
+    bool reached = all.longest <= LONGEST && (*part || mean_of(&both) <= MEAN);  // the mean is judged over all queries only
     printf("Rows %s SQLite's; the reach is %s.\n\n", all.faults ? "DIFFER from" : "equal", reached ? "kept" : "MISSED");
     return all.faults == 0 && reached;
 }
@@ -1034,15 +1131,16 @@ static void print_totals(const char *over, const Total totals[CHANGES]) {
            mean_of(&totals[REMOVAL]), mean_of(&totals[PUT]), 1e3 * totals[REMOVAL].longest, 1e3 * totals[PUT].longest);
 }
 
-// A removal and a put for all queries whose name has the part, over one store.
-static void report_store_changes(bool fine, const char *part, Total all[CHANGES]) {
-    Store store = filled(fine);
+// A removal and a put for all queries of one store whose name has the part.
+static void report_store_changes(int which, const char *part, Total all[CHANGES]) {
+    if (!has_query(which, part)) return;
+    Store store = filled(which);
     sqlite3 *db = opened(&store);
     Total totals[CHANGES] = {0};
     printf("a removal from %zu records, %zu distinct values, and a put of the same record\n", store.count, distinct_values(&store));
     printf("  %-46s %5s %5s %10s %10s %8s %10s %10s %8s\n", "query", "left", "join", "removal us", "SQLite us", "ratio", "put us", "SQLite us", "ratio");
     for (size_t i = 0; i < query_count; i++)
-        if (strstr(queries[i].name, part)) report_turn(&queries[i], &store, db, totals);
+        if (is_chosen(&queries[i], which, part)) report_turn(&queries[i], &store, db, totals);
     print_totals("  ", totals);
     printf("\n");
     sqlite3_close(db);
@@ -1052,8 +1150,11 @@ static void report_store_changes(bool fine, const char *part, Total all[CHANGES]
 // Whether all is well: the rows that joined and left are the difference of SQLite's.
 static bool report_changes(const char *part) {
     Total all[CHANGES] = {0};
-    for (int fine = 0; fine < 2; fine++) report_store_changes(fine, part, all);
+    for (int store = COARSE; store <= FINE; store++) report_store_changes(store, part, all);
     print_totals("Over both, ", all);
+    if (all[REMOVAL].queries) printf("\n");
+    report_store_changes(NETWORK, part, all);
+    print_totals("Over all three, ", all);
     printf("A change that comes to over 512 rows is refused (cause 17), and not timed.\n");
     bool same = all[REMOVAL].faults == 0;
     printf("Rows that joined and left %s the difference of SQLite's.\n", same ? "are" : "DIFFER from");
@@ -1064,7 +1165,7 @@ int main(int argc, char **argv) {
     bool changes_only = argc > 1 && strcmp(argv[1], "changes") == 0;
     const char *part = argc > 1 + changes_only ? argv[1 + changes_only] : "";
     menu();
-    if (!has_query(part)) die("no such query", part);
+    if (!has_query(COARSE, part) && !has_query(NETWORK, part)) die("no such query", part);
     bool well = changes_only || report_answers(part);
     return report_changes(part) && well ? 0 : 1;
 }

@@ -457,7 +457,8 @@ def named_answer_cases():
         size = 0 if expect is None else sum(map(len, expect))
         text = " endless" if expect is None else account.rows_text(expect)
         answer_case(name, s, records, data, size + 1, False, text)
-        answer_case(name + ", safe wanted", s, records, data, size, True, text if safe else " refused 11 0")
+        held = records if safe else []  # 11 rests on the query alone
+        answer_case(name + ", safe wanted", Store(widths, held), held, data, size, True, text if safe else " refused 11 0")
         if size:
             answer_case(name + ", no room", s, records, data, size - 1, safe, " refused 18 0")
 
@@ -498,9 +499,9 @@ def named_answer_cases():
     a("constants in a record", [record(0, 17, 16)], [[]], True, [3, 9])
     a("a variable twice in a record", [record(0, 4, 4)], [[5]], True, (), [(0, 4, 5, 0, 0), (0, 5, 5, 0, 0)])
     # the limits
-    a("64 nodes", chain(64), None, False)
-    a("63 nodes", chain(63), [[7]], True)
-    a("16 constants", joined_by(either, [equality(3, 16 + i) for i in range(16)]), [[i] for i in range(1, 17)], True, range(16, 0, -1))
+    a("64 nodes", chain(64), None, False, (), THREE[2:])
+    a("63 nodes", chain(63), [[7]], True, (), THREE[2:])
+    a("16 constants", joined_by(either, [equality(3, 16 + i) for i in range(16)]), [[i] for i in range(1, 17)], True, range(16, 0, -1), [])
     a("4 free variables", [record(3, 3, 15, 7, 11)], [[1, 3, 4, 2]], True, (), [(3, 1, 2, 3, 4)], [0, 0, 0, 4] + [0] * 12)
     a("0(x) and 2(y,z,w)", [record(0, 0), record(2, 1, 2, 3), both(0, 1)], [[9, 5, 6, 7]], True, (), [(0, 9, 0, 0, 0), (2, 5, 6, 7, 0)], [1, 0, 3] + [0] * 13)
 
@@ -510,15 +511,15 @@ def named_answer_cases():
     r("answer: 1, before 2 and 3", "1 0", b"", Store([2, 5] + [0] * 14, THREE, 2))
     r("answer: 2, before 3", "2 0", b"", Store(WIDTHS_S, THREE, 2))
     r("answer: 2, 257 records", "2 0", WORKED, Store(WIDTHS_S, THREE, 257))
-    r("answer: 3", "3 0", b"\x10")
-    r("answer: 4, 65 nodes", "4 0", words_bytes(chain(65), header=1 << 12 | 65 << 5))
-    r("answer: 4, 17 constants", "4 0", words_bytes([equality(0, 16)], range(17)))
-    r("answer: 5", "5 0", WORKED[:-1])
-    r("answer: 6", "6 1", nodes_with(n1=0xE0000000))
-    r("answer: 7", "7 0", nodes_with(n3=both(2, 2)))
-    r("answer: 8", "8 1", nodes_with(n1=R1 | 16 << 17))
-    r("answer: 9", "9 1", nodes_with(n1=0x2E400000))
-    r("answer: 10, 5 free variables, before 11", "10 0", words_bytes(joined([equality(0, 1), equality(2, 3), equality(4, 4)])), safe=True)
+    r("answer: 3", "3 0", b"\x10", given=[])
+    r("answer: 4, 65 nodes", "4 0", words_bytes(chain(65), header=1 << 12 | 65 << 5), given=[])
+    r("answer: 4, 17 constants", "4 0", words_bytes([equality(0, 16)], range(17)), given=[])
+    r("answer: 5", "5 0", WORKED[:-1], given=[])
+    r("answer: 6", "6 1", nodes_with(n1=0xE0000000), given=[])
+    r("answer: 7", "7 0", nodes_with(n3=both(2, 2)), given=[])
+    r("answer: 8", "8 1", nodes_with(n1=R1 | 16 << 17), given=[])
+    r("answer: 9", "9 1", nodes_with(n1=0x2E400000), given=[])
+    r("answer: 10, 5 free variables, before 11", "10 0", words_bytes(joined([equality(0, 1), equality(2, 3), equality(4, 4)])), safe=True, given=[])
     r("answer: 11 before 18", "11 0", words_bytes([R1, no(0), equality(0, 1), no(2), either(1, 3), no(4)]), safe=True, room=0)
     answer_case("endless before 18", Store(WIDTHS_S, THREE), THREE, words_bytes([R1, no(0)]), 0, False, " endless")
 
@@ -532,7 +533,7 @@ LENT = 8192  # the most numbers that the program lends
 
 
 def large_answer_cases():
-    """Many records, and many rows: as many as the engine keeps aside while it counts them, a row more, and as many as the program can lend."""
+    """Many records, and many rows: some 2,048 numbers, and as many as the program can lend."""
     full = [(0, i // 16, i % 16, 0, 0) for i in range(256)]
     for room in (511, 512, 513):
         answer_case(f"256 records, {room}", Store(WIDTHS_S, full), full, words_bytes([R0]), room)
@@ -864,6 +865,233 @@ def random_goal_cases(rng, number):
         if rng.random() < 0.6:
             data = next(filter(lambda query: account.found(s, query, False)[1], (make() for _ in range(4))), data)
         answer_case(f"g{i}", s, s.held(), data, room_for(rng), rng.random() < 0.1)
+
+
+# ---- rows that come in any order, by several ways, and from goals that share no variable
+
+def row_shapes():
+    """Those that are stored, and those that only --random runs: a name, the formula, its rows or None for endless, the records, and the constants."""
+    x, y, z, w = range(4)
+    stored, beyond = [], []
+
+    def r(name, t, expect, *records, constants=(), among=stored):
+        among.append((name, t, expect, sorted((*held, *[0] * (5 - len(held))) for held in records), constants))
+
+    def more(*words, **named):
+        r(*words, **named, among=beyond)
+
+    # a row by two ways
+    r("1(x,y) or 1(y,x): rows by both sides", ors(leaf(1, x, y), leaf(1, y, x)), [[0, 4], [1, 2], [2, 1], [4, 0]], (1, 1, 2), (1, 2, 1), (1, 4, 0))
+    r("exists z 2(z,x,y): 5 6 by two records, 3 4 between", under([z], leaf(2, z, x, y)), [[3, 4], [5, 6]], (2, 1, 5, 6), (2, 2, 3, 4), (2, 3, 5, 6))
+    diamond = (1, 1, 2), (1, 1, 3), (1, 2, 9), (1, 3, 9)
+    r("exists z (1(x,z) and 1(z,y)): 1 9 by two z", under([z], ands(leaf(1, x, z), leaf(1, z, y))), [[1, 9]], *diamond)
+    more("an or of a record and of hidden ones: 1 9 by three ways", ors(under([z], ands(leaf(1, x, z), leaf(1, z, y))), leaf(1, x, y)),
+         [[1, 2], [1, 3], [1, 9], [2, 9], [3, 9]], *diamond, (1, 1, 9))
+    # a column that an exists binds again
+    two, apart = ((0, 5), (0, 7)), ((1, 1, 2), (1, 3, 2), (1, 5, 4))
+    again = under([x], leaf(1, x, y))
+    r("0(x) and exists x 1(x,y): another x", ands(leaf(0, x), again), [[5, 2], [5, 4], [7, 2], [7, 4]], *two, *apart)
+    r("exists x 1(x,y) and 0(x): another x before", ands(again, leaf(0, x)), [[5, 2], [5, 4], [7, 2], [7, 4]], *two, *apart)
+    r("0(x) and 0(y) and not exists x 1(x,y): another x denied", ands(leaf(0, x), leaf(0, y), denied(again)), [[2, 5], [5, 5]], (0, 2), (0, 5), (1, 1, 2))
+    r("not exists y 1(x,y) and 0(x) and 0(y): another y denied before", ands(denied(under([y], leaf(1, x, y))), leaf(0, x), leaf(0, y)),
+      [[3, 1], [3, 3]], (0, 1), (0, 3), (1, 1, 7))
+    more("1(x,y) and exists x (0(x) and exists y 1(y,x)): both other", ands(leaf(1, x, y), under([x], ands(leaf(0, x), under([y], leaf(1, y, x))))),
+         [[1, 2], [3, 4]], (0, 4), (1, 1, 2), (1, 3, 4))
+    # goals that fall into groups
+    one, ones = (0, 1), ((0, 1), (0, 2))
+    r("0(x) and 0(y) and 1(z,z): the last is dead", ands(leaf(0, x), leaf(0, y), leaf(1, z, z)), [], one, (1, 1, 2))
+    r("1(x,x) and 0(y) and 0(z): the first is dead", ands(leaf(1, x, x), leaf(0, y), leaf(0, z)), [], one, (1, 1, 2))
+    r("0(x) and exists y 1(y,y): no column, met", ands(leaf(0, x), under([y], leaf(1, y, y))), [[1]], one, (1, 3, 3))
+    r("0(x) and exists y 1(y,y): no column, not met", ands(leaf(0, x), under([y], leaf(1, y, y))), [], one, (1, 3, 4))
+    more("exists y 1(y,y) and 0(x): no column, not met, first", ands(under([y], leaf(1, y, y)), leaf(0, x)), [], *ones, (1, 3, 4))
+    more("0(x) and not exists y 1(y,y): no column, denied, met", ands(leaf(0, x), denied(under([y], leaf(1, y, y)))), [[1], [2]], *ones, (1, 3, 4))
+    r("1(y,w) and 1(x,z): columns of two groups in turn", ands(leaf(1, y, w), leaf(1, x, z)), [[1, 1, 2, 2], [1, 3, 2, 0], [3, 1, 0, 2], [3, 3, 0, 0]], (1, 1, 2), (1, 3, 0))
+    r("not 0(x) and 1(y,y): endless beside a dead one", ands(denied(leaf(0, x)), leaf(1, y, y)), [], one, (1, 3, 4))
+    r("not 0(x) and 1(y,y): endless beside one that is met", ands(denied(leaf(0, x)), leaf(1, y, y)), None, one, (1, 3, 3))
+    more("0(x) and not 0(y) and not 0(z): two are endless", ands(leaf(0, x), denied(leaf(0, y)), denied(leaf(0, z))), None, *ones)
+    # rows in another order than the records
+    r("1(y,x): the columns swapped", leaf(1, y, x), [[5, 2], [7, 3], [9, 1]], (1, 1, 9), (1, 2, 5), (1, 3, 7))
+    r("3(w,z,y,x): the columns backward", leaf(3, w, z, y, x), [[4, 8, 2, 1], [5, 1, 1, 0], [5, 1, 2, 1]], (3, 0, 1, 1, 5), (3, 1, 2, 1, 5), (3, 1, 2, 8, 4))
+    r("0(x) or exists y 1(x,y): the greater first", ors(leaf(0, x), under([y], leaf(1, x, y))), [[3], [8], [9]], (0, 8), (0, 9), (1, 3, 1), (1, 9, 1))
+    falling = ors(ands(same(x, 16), leaf(0, y)), ands(same(x, 17), leaf(0, y)), ands(same(x, 18), leaf(0, y)))
+    r("x = 9, 3 or 5, and 0(y): not ascending", falling, [[3, 1], [3, 2], [5, 1], [5, 2], [9, 1], [9, 2]], *ones, constants=[9, 3, 5])
+    # unsafe, and finite: numbers are tried for columns
+    r("unsafe: not not x = 7 and not not y = x", ands(denied(denied(same(x, 16))), denied(denied(same(y, x)))), [[7, 7]], constants=[7])
+    r("unsafe: (x = y and y = z) and 0(z)", ands(ands(same(x, y), same(y, z)), leaf(0, z)), [[1, 1, 1], [2, 2, 2]], *ones)
+    only = denied(under([z], ands(leaf(0, z), denied(same(z, x)))))
+    r("unsafe: x = y, and no other than x in 0", ands(same(x, y), only), [[3, 3]], (0, 3))
+    all_of = denied(under([z], ands(leaf(0, z), denied(same(z, x)), denied(same(z, y)))))
+    r("unsafe: x and y are all of 0", all_of, [[3, 8], [8, 3]], (0, 3), (0, 8))
+    more("unsafe: x and y are all of 0, and it has one", all_of, None, (0, 3))
+    return stored, beyond
+
+
+def shape_case(name, shape, room):
+    _, t, expect, records, constants = shape
+    size = sum(map(len, expect or []))
+    text = " endless" if expect is None else account.rows_text(expect) if size <= room(size) else " refused 18 0"
+    answer_case(name, Store(WIDE, records), records, words_bytes(in_order(t), constants), room(size), False, text)
+
+
+def product_of_1024():
+    """1,024 rows of four columns, which are 4,096 numbers; the same and a row more; and the records of both."""
+    x, y, z, w = range(4)
+    product = ands(leaf(0, x), leaf(0, y), leaf(0, z), leaf(1, w, w))
+    return product, ors(product, leaf(3, x, y, z, w)), [(0, v, 0, 0, 0) for v in range(8)] + [(1, 0, 0, 0, 0), (1, 9, 9, 0, 0), (3, 9, 9, 9, 9)]
+
+
+def named_row_cases():
+    """Each in a room of just as many numbers as its rows have; and the longest answer that is kept aside, and one of a row more."""
+    for shape in row_shapes()[0]:
+        shape_case(shape[0], shape, lambda size: size)
+    product, more, records = product_of_1024()
+    for name, t, held, room in (("1024 rows of 4 columns: all are kept aside", product, records[:-1], KEPT), ("1025 rows of 4 columns: not all are", more, records, KEPT + 4)):
+        answer_case(name, Store(WIDE, held), held, words_bytes(in_order(t)), room)
+
+
+def row_room_cases():
+    """The stored ones in a room of one number fewer and in the longest, and the others in all three; the unsafe ones where safe-range answers are wanted; and
+    lists whose rows come by two ways, and leave with the last."""
+    stored, beyond = row_shapes()
+    for shape in beyond:
+        shape_case(shape[0], shape, lambda size: size)
+    for shape in stored + beyond:
+        if shape[2]:
+            shape_case(f"{shape[0]}, no room", shape, lambda size: size - 1)
+        shape_case(f"{shape[0]}, much room", shape, lambda size: LENT)
+    for name, t, _, records, constants in stored + beyond:
+        if name.startswith("unsafe: "):
+            answer_case(f"{name}, safe wanted", Store(WIDE, records), records, words_bytes(in_order(t), constants), LENT, True, " refused 11 0")
+    out, put = (lambda r: ("r", r, 9, 9)), (lambda r: ("p", r, 9, 9))
+    first, second = (1, 1, 2, 0, 0), (1, 2, 1, 0, 0)
+    sides = in_order(ors(leaf(1, 0, 1), leaf(1, 1, 0)))
+    opened("a list of rows by both sides of an or", [first, second], sides, [out(first), out(second), put(second), put(first)],
+           [(0, 0), (0, 2), (2, 0), (0, 0)], widths=WIDE)
+    diamond = [(1, 1, 2, 0, 0), (1, 1, 3, 0, 0), (1, 2, 9, 0, 0), (1, 3, 9, 0, 0)]
+    through = in_order(under([2], ands(leaf(1, 0, 2), leaf(1, 2, 1))))
+    opened("a list of a row by two hidden values", diamond, through, [out(diamond[0]), out(diamond[3]), put(diamond[0]), put(diamond[3])],
+           [(0, 0), (0, 1), (1, 0), (0, 0)], widths=WIDE)
+    groups = in_order(ands(leaf(0, 0), under([2], leaf(1, 2, 2)), leaf(0, 1)))
+    met = [(0, 1, 0, 0, 0), (0, 2, 0, 0, 0), (1, 3, 3, 0, 0)]
+    opened("a list beside a group without a column", met, groups, [put((1, 4, 4, 0, 0)), out(met[2]), out((1, 4, 4, 0, 0)), put(met[2]), out(met[0])],
+           [(0, 0), (0, 0), (0, 4), (4, 0), (0, 3)], widths=WIDE)
+
+
+KEPT = 4096  # the most numbers of rows that are kept aside
+NARROW = [1, 1, 1, 1, 1, 2, 3, 4] + [0] * 8  # five relations of one column, and one of each other width
+
+
+def in_rooms(name, records, t, rows, columns, constants=()):
+    """An answer of so many rows in rooms of a number fewer than they have, of as many, of far fewer and more, and of as many as are kept aside."""
+    s, data = Store(NARROW, sorted(records)), words_bytes(in_order(t), constants)
+    found, size = account.found(s, data, False), rows * columns
+    agree(name, (rows, columns), (len(found[1]), len(found[1][0])))
+    for room in sorted({100, size - 1, size, KEPT, LENT}):
+        text, rest = account.answer_text(found, room)
+        case("a", f"{name}, in {room}", struct.pack(">BH", False, room) + pack_store(s, s.held()) + data, text + rest)
+
+
+def kept_aside_cases():
+    """Answers of just below, at and just above 4,096 numbers, which are kept aside in ascending order and without repeats, and of far more."""
+    x, y, z, w = range(4)
+    table = lambda sizes: ands(*(leaf(i, i) for i in range(len(sizes))))
+    # one column can't have so many: 256 records have 1,024 values; here they have half of those, which the account can list
+    pairs = [(5, 2 * i, 2 * i + 1, 0, 0) for i in range(256)]
+    values = ors(under([y], leaf(5, y, x)), under([y], leaf(5, x, y)))
+    in_rooms("1 column: 512 values", pairs, values, 512, 1)
+    in_rooms("1 column: 512 values and 16 numbers, the greatest first", pairs, ors(*(same(x, 31 - i) for i in range(16)), values), 528, 1, range(600, 616))
+    # products of tables
+    below, at = ([23, 89], [45, 45], [4, 11, 31], [3, 11, 31, 1]), ([64, 32], [7, 13, 15], [8, 8, 4, 4])
+    above = ([41, 50], [6, 12, 19], [5, 5, 41, 1], [64, 64], [8, 8, 8, 4])
+    for where, all_sizes in (("below", below), ("at", at), ("above", above)):
+        for sizes in all_sizes:
+            in_rooms(f"{where} what is kept aside: {sizes}", products(sizes), table(sizes), math.prod(sizes), len(sizes))
+    # one row beside the product's: the least, the greatest, or one of its own
+    for sizes in at:
+        k, rows = len(sizes), math.prod(sizes)
+        for which, values, more in (("the least more", [0] * k, 1), ("the greatest more", [4294967295] * k, 1), ("one again", range(10, 10 + k), 0)):
+            records = products(sizes) + [(3 + k, *values, *[0] * (4 - k))]
+            in_rooms(f"at what is kept aside, and {which}: {sizes}", records, ors(table(sizes), leaf(3 + k, *range(k))), rows + more, k)
+    # twice as many found as there are rows
+    again = ors(ands(leaf(0, x), leaf(1, y)), ands(leaf(1, y), leaf(0, x)))
+    in_rooms("at what is kept aside, by both sides of an or", products([64, 32]), again, 2048, 2)
+    hidden = under([z], ands(leaf(0, x), leaf(1, y), leaf(2, z)))
+    in_rooms("at what is kept aside, by three hidden values", products([64, 32, 3]), hidden, 2048, 2)
+    through = under([z], ands(leaf(5, x, z), leaf(5, y, z)))
+    in_rooms("below what is kept aside, by four hidden values", [(5, i, j, 0, 0) for i in range(45) for j in range(4)], through, 2025, 2)
+    # rows that come in another order than their own
+    in_rooms("above what is kept aside, the last column's table first", products([41, 50]), ands(leaf(0, y), leaf(1, x)), 2050, 2)
+    greater_first = ors(ands(leaf(1, x), leaf(1, y)), ands(leaf(0, x), leaf(0, y)))
+    halves = [(0, v, 0, 0, 0) for v in range(32)] + [(1, v, 0, 0, 0) for v in range(100, 132)]
+    in_rooms("at what is kept aside, the greater half first", halves, greater_first, 2048, 2)
+    more = halves + [(1, 132, 0, 0, 0)]
+    in_rooms("above what is kept aside, the greater half first", more, greater_first, 2113, 2)
+
+
+def row_record(rng, relations, group, others):
+    """A record with the variables of the group at any places, and others, these again or a number at the rest; and those others."""
+    relation = rng.choice([r for r in relations if r + 1 >= len(group)])
+    filled = [rng.choice(others * 3 + group + [16]) for _ in range(relation + 1 - len(group))]
+    return leaf(relation, *rng.sample(group + filled, relation + 1)), [x for x in others if x in filled]
+
+
+def row_group(rng, relations, group, others):
+    """Goals that give the variables of a group: a record, an or of several, or a join through a hidden variable. What is bound may have a column's name."""
+    def one():
+        t, bound = row_record(rng, relations, group, others)
+        return under(rng.sample(bound, len(bound)), t)
+
+    sort = rng.random()
+    if sort < 0.08:  # nothing bounds these: they are numbers, or anything
+        return bracketed(rng, ands, [same(x, rng.choice([16, 16, group[0]])) for x in group]) if rng.random() < 0.6 else denied(one())
+    if sort < 0.5:
+        return one()
+    if sort < 0.72:
+        return bracketed(rng, ors, [one() for _ in range(rng.choice([2, 2, 3]))])
+    h = rng.choice(others)
+    parts = [under([x for x in bound if x != h], t) for t, bound in (row_record(rng, relations, group, others) for _ in range(2))]
+    return under([h], bracketed(rng, ands, parts + [perhaps_denied(rng, leaf(relations[0], *[h] * (relations[0] + 1)), 0.3)]))
+
+
+def row_side(rng, relations, columns, names):
+    """Groups that give all columns between them, and beside them what gives none: an exists that is met or not, a denial, an equality of two columns."""
+    left, parts, widest = rng.sample(columns, len(columns)), [], max(relations) + 1
+    while left:
+        size = rng.randint(1, min(len(left), widest))
+        group, left = left[:size], left[size:]
+        parts.append(row_group(rng, relations, group, [x for x in names if x not in group]))
+    if rng.random() < 0.4:
+        h, relation = rng.choice(names), rng.choice(relations)
+        parts.append(perhaps_denied(rng, under([h], leaf(relation, *(rng.choice([h, h, 16]) for _ in range(relation + 1)))), 0.3))
+    if rng.random() < 0.3:
+        h = rng.choice(names)
+        parts.append(denied(under([h], row_record(rng, relations, [rng.choice(columns)], [h])[0])))
+    if rng.random() < 0.2:
+        parts.append(perhaps_denied(rng, same(*rng.sample(columns, 2)), 0.6))
+    return bracketed(rng, ands, parts)
+
+
+def row_query(rng, relations, columns, hidden):
+    """The tree of a query: a product of groups, or two of them joined by or."""
+    sides = [row_side(rng, relations, columns, columns + hidden) for _ in range(rng.choice([1, 1, 1, 2]))]
+    return bracketed(rng, ors, sides)
+
+
+def random_row_cases(rng, number):
+    """Rows that come in any order and by several ways: 2 to 4 columns, over 2 to 4 small relations."""
+    for i in range(number):
+        values = rng.choice([[0, 1], [7, 9], [0, 7, 4294967295], [1, 2, 3]])
+        relations = sorted(rng.sample(range(4), rng.choice([2, 3, 3, 4])))
+        share = rng.choice([1, 2, 4, 6])
+        records = {(r, *rng.choices(values, k=r + 1), *[0] * (3 - r)) for r in relations for _ in range(share + rng.choice([0, 1, 2]))}
+        s, k = Store(WIDE, sorted(records)), rng.choice([2, 2, 3, 3, 4])
+        names = rng.sample(range(16), k + rng.choice([1, 1, 2]))
+        make = lambda: next(t for t in iter(lambda: row_query(rng, relations, names[:k], names[k:]), None) if tree_size(t) <= 64)
+        packed = lambda: words_bytes(random_order(rng, make()), [rng.choice(values + [5])])
+        data = packed()
+        if rng.random() < 0.8:
+            data = next(filter(lambda query: len(account.found(s, query, False)[1] or []) > 1, (packed() for _ in range(4))), data)
+        answer_case(f"r{i}", s, s.held(), data, room_for(rng), rng.random() < 0.1)
 
 
 # ---- runs of a standing list
@@ -1243,7 +1471,7 @@ def equality_cases():
 
 # ---- those that are stored
 
-ROOM = 65000  # bytes of cases that the program takes at once
+ROOM = 65000  # bytes of cases that the program is given at once; of the stored ones some more
 
 
 def stored_cases():
@@ -1251,9 +1479,8 @@ def stored_cases():
     named_verdict_cases()
     named_answer_cases()
     named_goal_cases()
+    named_row_cases()
     named_run_cases()
     store_cases()
     fill_cases()
-    random_verdict_cases(random.Random(20261115), 40)
-    room = ROOM - sum(len(c.given()) for c in CASES)
-    random_query_cases(random.Random(20261115), room // 75)
+    random_verdict_cases(random.Random(20261115), 10)

@@ -37,7 +37,9 @@ def check_citations(page, problems):
 
 
 def check_cases(page, problems):
-    trials = {c.name for make in (cases.stored_cases, cases.node_cases, cases.equality_cases, cases.large_store_cases, cases.large_answer_cases, cases.large_run_cases) for c in cases.made(make)}
+    makers = [cases.stored_cases, cases.node_cases, cases.equality_cases, cases.row_room_cases, cases.kept_aside_cases]
+    makers += [cases.large_store_cases, cases.large_answer_cases, cases.large_run_cases]
+    trials = {c.name for make in makers for c in cases.made(make)}
     edges = {name for name, *_ in [*catalogue.worked_cases(), *catalogue.limit_cases()]}
     count = 0
     for line in (line for line in page.split("\n") if line.startswith("|")):

@@ -4,9 +4,10 @@
 trials.py             compares crates/trials/stdin and crates/trials/stdout with the stored cases; exit status 1 where they differ
 trials.py --write     writes both files
 trials.py --random N  runs the built program on N batches of random queries, verdicts, stores, answers (some of them to shapes that the steps of the
-                      search are for) and runs, on the verdicts of all formulas of at most five nodes over seven leaves, on the answers of all
-                      such formulas over six leaves and six stores, for each node on a verdict that names it alone, on verdicts with an equality
-                      on either side of an and, and on answers of many rows, and compares; exit status 1 where they differ
+                      search are for, some with rows that come in any order and by several ways) and runs, on the verdicts of all formulas of at
+                      most five nodes over seven leaves, on the answers of all such formulas over six leaves and six stores, for each node on a
+                      verdict that names it alone, on verdicts with an equality on either side of an and, on rows in rooms that are too small and
+                      large, and on answers of many rows, and compares; exit status 1 where they differ
 """
 import pathlib
 import random
@@ -112,7 +113,8 @@ def compare(where, chosen):
 
 
 RANDOM = [(cases.random_query_cases, 400), (cases.random_store_cases, 40), (cases.random_verdict_cases, 400), (cases.random_answer_cases, 300),
-          (cases.random_prenex_cases, 100), (cases.random_join_cases, 400), (cases.random_goal_cases, 210), (cases.random_run_cases, 6)]
+          (cases.random_prenex_cases, 100), (cases.random_join_cases, 400), (cases.random_goal_cases, 210), (cases.random_row_cases, 300),
+          (cases.random_run_cases, 6)]
 
 
 def runs(number):
@@ -125,6 +127,8 @@ def runs(number):
             yield f"{size} nodes", make, size
     yield "each node", cases.node_cases
     yield "equality on either side", cases.equality_cases
+    yield "rows in other rooms", cases.row_room_cases
+    yield "rows kept aside", cases.kept_aside_cases
     yield "large stores", cases.large_store_cases
     yield "large answers", cases.large_answer_cases
     yield "large lists", cases.large_run_cases
