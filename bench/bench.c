@@ -708,6 +708,9 @@ static void product_lines(void) {
                 "SELECT DISTINCT a.station, b.station, b.pump, d.station FROM"
                 " (SELECT station FROM stations s WHERE EXISTS (SELECT 1 FROM links l WHERE l.station = s.station AND l.towards = s.station)) d"
                 " CROSS JOIN stations a CROSS JOIN pumps b ORDER BY 1, 2, 3, 4");
+    ask_network("network: pairs that are linked or pumped", conj(rel(STATIONS, A), rel(STATIONS, B), disj(rel(LINKS, A, B), rel(PUMPS, A, B))),
+                "SELECT DISTINCT a.station, b.station FROM stations a JOIN stations b WHERE EXISTS (SELECT 1 FROM links l WHERE l.station = a.station"
+                " AND l.towards = b.station) OR EXISTS (SELECT 1 FROM pumps p WHERE p.station = a.station AND p.pump = b.station) ORDER BY 1, 2");
     ask_network("network: three tables, listed", conj(rel(LINKS, con(station_number(9)), A), rel(STATIONS, B), rel(LINKS, con(station_number(5)), C)),
                 "SELECT DISTINCT a.towards, b.station, c.towards FROM links a CROSS JOIN stations b CROSS JOIN links c"
                 " WHERE a.station = 2009 AND c.station = 2005 ORDER BY 1, 2, 3");

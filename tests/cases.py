@@ -909,6 +909,13 @@ def row_shapes():
     r("not 0(x) and 1(y,y): endless beside a dead one", ands(denied(leaf(0, x)), leaf(1, y, y)), [], one, (1, 3, 4))
     r("not 0(x) and 1(y,y): endless beside one that is met", ands(denied(leaf(0, x)), leaf(1, y, y)), None, one, (1, 3, 3))
     more("0(x) and not 0(y) and not 0(z): two are endless", ands(leaf(0, x), denied(leaf(0, y)), denied(leaf(0, z))), None, *ones)
+    # so many ways to a row that rows are listed column by column
+    linked = tuple((1, a, b) for a in range(8) for b in range(8))
+    hidden = [z, w, 4]
+    more("a path of 4 among 8, all linked: 512 ways to each row", under(hidden, ands(leaf(1, x, z), leaf(1, z, w), leaf(1, w, 4), leaf(1, 4, y))),
+         [[a, b] for a in range(8) for b in range(8)], *linked)
+    more("a path of 4 among 8, the end denied: 512 ways to no row", ands(under(hidden, ands(leaf(1, x, z), leaf(1, z, w), leaf(1, w, 4), leaf(1, 4, y))), denied(leaf(1, x, y))),
+         [], *linked)
     # rows in another order than the records
     r("1(y,x): the columns swapped", leaf(1, y, x), [[5, 2], [7, 3], [9, 1]], (1, 1, 9), (1, 2, 5), (1, 3, 7))
     r("3(w,z,y,x): the columns backward", leaf(3, w, z, y, x), [[4, 8, 2, 1], [5, 1, 1, 0], [5, 1, 2, 1]], (3, 0, 1, 1, 5), (3, 1, 2, 1, 5), (3, 1, 2, 8, 4))

@@ -5,7 +5,7 @@ use native.Mathlib.Omega.{arith}
 use native.Mathlib.Nat.{mul-le-mul}
 use mathlib.Core.Path.{_≡_, refl, sym, ap, subst, subst⁻¹, _∙_}
 use mathlib.Core.Logic.{_⊎_, inl, inr}
-use mathlib.Core.Bool.{Bool, false}
+use mathlib.Core.Bool.{Bool, true, false}
 use mathlib.Core.List.{List, [], _∷_, map}
 use lib.ListN.{length, take, drop, replicate, length-replicate}
 use lib.Dec.{T}
@@ -25,21 +25,20 @@ use Rattle.query.specs.declared.Columns.{Columns}
 use Rattle.query.specs.Reading.{formula}
 use Rattle.answer.specs.declared.Found.{Found}
 use Rattle.answer.specs.Code.Listing.{cut}
-use Rattle.answer.specs.Code.Listing.Cut.{cut-numbers}
+use Rattle.answer.specs.Code.Listing.Cut.{length-cut, cut-numbers}
 use Rattle.answer.specs.Reply.{result-of, exceeds, found-reply}
 use Rattle.answer.specs.Code.Reply.{Answerable, evaluated}
 use Rattle.standing.specs.declared.Rows.{Rows}
 use Rattle.standing.specs.declared.View.{View}
-use Rattle.standing.specs.declared.Current.{Current}
 use Rattle.standing.specs.declared.Change.{Change}
 use Rattle.standing.specs.View.{max-rows, held-rows, stored, rows-in, kept, mark}
-use Rattle.standing.specs.Code.View.{InOrder}
-use Rattle.standing.specs.View.Laws.{held-rows-stored, rows-stored, stored-padded}
+use Rattle.standing.specs.Code.View.{rows-with, InOrder}
+use Rattle.standing.specs.View.Laws.{stored-none, held-rows-stored, rows-stored, stored-padded}
 use Rattle.standing.specs.View.Difference.{padded-ascending, only-in-padded, only-in-width, only-in-fewer}
 use Rattle.standing.specs.View.Layout.{Layout, suited}
 use Rattle.standing.specs.Checks.{is-over, report-checks}
 use Rattle.standing.specs.Change.{joining, leaving, fronted, refusal, turn-reply}
-use Rattle.standing.specs.Code.Change.{current, Suits, maintained}
+use Rattle.standing.specs.Code.Change.{Current, told, current, Suits, maintained}
 use Rattle.standing.specs.Change.Turn.{result-wide, result-ascends, report-done, too-many, all-kept, current-over, current-kept, over-is, maintained-by}
 
 -- ---- at most `max-rows` rows of at most four columns
@@ -59,12 +58,12 @@ never-both : {a : Answer} {n p : ℕ} → a ≡ Refused n p → a ≡ Done → �
 never-both e d = subst (λ b. T (is-done b)) e (subst⁻¹ (λ b. T (is-done b)) d tt)
 
 -- All rows of k columns are told.
-abbrev Told : ℕ → Result → Found × List ℕ → Type 0
-Told k found r = (r .0 .rows ≡ length (kept found)) × (r .0 .endless ≡ mark found) × (cut k (r .0 .rows) (r .1) ≡ kept found)
+abbrev AllTold : ℕ → Result → Found × List ℕ → Type 0
+AllTold k found r = (r .0 .rows ≡ length (kept found)) × (r .0 .endless ≡ mark found) × (cut k (r .0 .rows) (r .1) ≡ kept found)
 
 -- They are refused, being too many, or told.
 abbrev Outcome : ℕ → Result → Found × List ℕ → Type 0
-Outcome k found r = ((r .0 .answer ≡ Refused 18 0) × (max-rows < length (kept found))) ⊎ ((r .0 .answer ≡ Done) × Told k found r)
+Outcome k found r = ((r .0 .answer ≡ Refused 18 0) × (max-rows < length (kept found))) ⊎ ((r .0 .answer ≡ Done) × AllTold k found r)
 
 -- So it is in a buffer as long as the places of a list.
 outcome : (k : ℕ) → k ≤ 4 → (buffer : List ℕ) → length buffer ≡ 4 * max-rows → (found : Result) → Width k (kept found) → Outcome k found (found-reply (first-cause (check 18 (when (exceeds (length buffer) k found)) ∷ [])) found buffer)
@@ -74,6 +73,10 @@ outcome k few buffer room (listed rows) wide = go (reflects-ltb (length buffer) 
     go : {b : Bool} → Reflects (length buffer < length rows * k) b → Outcome k (listed rows) (found-reply (first-cause (check 18 (when b) ∷ [])) (listed rows) buffer)
     go (holds h) = inl (refl, many-rows (length rows) k few (omega (arith, h, room)))
     go (fails n) = inr (refl, (refl, refl, cut-numbers k rows (drop (length (numbers rows)) buffer) wide))
+
+-- Where they are too many, the places are left zero.
+pub places-left : {values : List ℕ} → values ≡ replicate (4 * max-rows) 0 → told (record { over = true; endless = false; count = 0 }) values ≡ too-many
+places-left e = ap (λ vs. record { over = true; endless = false; rows = rows-with vs 0 }) (e ∙ sym stored-none)
 
 -- An accepted query has at most four columns.
 pub few-columns : {s : Store} {q : Query} {cs : Columns} → Answerable s q cs → cs .count ≤ 4
@@ -99,10 +102,10 @@ module _ {s : Store} {q : Query} {cs : Columns} (h : Answerable s q cs) (f : Fou
       go (inr o) = absurd (never-both r (o .0))
 
   module _ (d : f .answer ≡ Done) where
-    all-told : Told k found (f, after)
+    all-told : AllTold k found (f, after)
     all-told = go reply
       where
-        go : Outcome k found (f, after) → Told k found (f, after)
+        go : Outcome k found (f, after) → AllTold k found (f, after)
         go (inl o) = absurd (never-both (o .0) d)
         go (inr o) = o .1
 
@@ -110,13 +113,19 @@ module _ {s : Store} {q : Query} {cs : Columns} (h : Answerable s q cs) (f : Fou
     pub find-over : max-rows < f .rows → current found ≡ too-many
     find-over l = current-over found (subst (λ n. max-rows < n) (all-told .0) l)
 
-    -- Told: they stand one after the other in the buffer.
-    pub find-kept : f .rows ≤ max-rows → current found ≡ record { over = false; endless = f .endless; rows = stored (cut (cs .count) (f .rows) after) }
-    find-kept l =
+    -- Told: they stand one after the other in the buffer,
+    stands-in-buffer : f .rows ≤ max-rows → current found ≡ record { over = false; endless = f .endless; rows = stored (cut (cs .count) (f .rows) after) }
+    stands-in-buffer l =
         let t = all-told in
         current-kept found (subst (λ n. n ≤ max-rows) (t .0) l)
         ∙ (λ i. record { over = false; endless = sym (t .1) i; rows = stored (sym (t .2) i) })
         ∙ ap (λ c. record { over = false; endless = f .endless; rows = stored (cut (c .count) (f .rows) after) }) (sym (h .columns-are))
+
+    -- and are spread over the places.
+    pub find-kept : {values : List ℕ} → f .rows ≤ max-rows → values ≡ stored (cut (cs .count) (f .rows) after) .values → told (record { over = false; endless = f .endless; count = f .rows }) values ≡ current found
+    find-kept l e =
+        (λ i. record { over = false; endless = f .endless; rows = rows-with (e i) (sym (length-cut (cs .count) (f .rows) after) i) })
+        ∙ sym (stands-in-buffer l)
 
 -- ---- the rows of one list only, as they stand in their places
 

@@ -6,8 +6,8 @@ use Rattle.causes.specs.declared.Answer.the-variants.{Done, Refused}
 use Rattle.query.specs.declared.Columns.{Columns}
 use Rattle.query.specs.Reading.{columns-of}
 use Rattle.standing.specs.declared.Rows.{Rows}
-use Rattle.standing.specs.declared.Current.{Current}
 use Rattle.standing.specs.declared.Opened.{Opened}
+use Rattle.standing.specs.Code.Change.{Current}
 
 -- A refusal, with its rows.
 abbrev pub no-list : ℕ → ℕ → Rows → Opened

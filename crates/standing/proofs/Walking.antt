@@ -15,9 +15,8 @@ use Rattle.calculus.specs.Order.{Ascending}
 use Rattle.calculus.specs.Order.Laws.{ascending-at}
 use Rattle.calculus.specs.Rows.{Row, row-below, only-in, Width}
 use Rattle.calculus.specs.Rows.Laws.{row-order}
-use Rattle.standing.specs.declared.Rows.{Rows}
 use Rattle.standing.specs.View.{max-rows, row-at, row-places, stored}
-use Rattle.standing.specs.Code.View.{Passed, Parted}
+use Rattle.standing.specs.Code.View.{rows-with, Passed, Parted}
 use Rattle.standing.specs.View.Laws.{length-row-places, getD-row-places, row-at-taken, width-first, stored-none, length-stored, stored-next}
 use Rattle.standing.specs.View.Layout.{length-first, getD-first}
 use Rattle.standing.specs.View.Difference.{parted-in, only-in-width, only-in-fewer, only-in-also, only-in-without}
@@ -58,14 +57,10 @@ module _ (vs : List ℕ) (m : ℕ) (few : m ≤ max-rows) (a : Ascending row-bel
 abbrev pub found : List ℕ → ℕ → List Row → List Row
 found xs i ys = only-in (take i (row-places xs)) ys
 
--- Values and a count, as rows.
-abbrev pub written : List ℕ → ℕ → Rows
-written values count = record { values = values; count = count }
-
 module _ (xs : List ℕ) (ys : List Row) where
   -- At first nothing is written.
-  pub found-none : written (replicate (4 * max-rows) 0) 0 ≡ stored (found xs 0 ys)
-  found-none = λ q. written (sym stored-none q) 0
+  pub found-none : rows-with (replicate (4 * max-rows) 0) 0 ≡ stored (found xs 0 ys)
+  found-none = λ q. rows-with (sym stored-none q) 0
 
   module _ (i : ℕ) (few : i ≤ max-rows) where
     found-width : Width 4 (found xs i ys)
@@ -75,7 +70,7 @@ module _ (xs : List ℕ) (ys : List Row) where
     found-fewer = omega (arith, only-in-fewer (take i (row-places xs)) ys, length-first xs i few)
 
     -- The sizes of what was written.
-    pub found-sizes : (values : List ℕ) (count : ℕ) → written values count ≡ stored (found xs i ys) → (count ≤ i) × (length values ≡ 4 * max-rows)
+    pub found-sizes : (values : List ℕ) (count : ℕ) → rows-with values count ≡ stored (found xs i ys) → (count ≤ i) × (length values ≡ 4 * max-rows)
     found-sizes values count e =
         (subst⁻¹ (λ k. k ≤ i) (λ q. e q .count) found-fewer, (λ q. length (e q .values)) ∙ length-stored 4 (omega arith) (found xs i ys) (omega (arith, found-fewer)) found-width)
 
@@ -94,10 +89,10 @@ module _ (xs : List ℕ) (ys : List Row) where
     found-also e = only-in-also (row-places xs) ys i within (told e) ∙ ap (λ r. found xs i ys ++ (r ∷ [])) (getD-row-places xs i few)
 
     -- One that it has not is written after the others.
-    pub found-written : (values : List ℕ) (count : ℕ) → length xs ≡ 4 * max-rows → written values count ≡ stored (found xs i ys) → any-of (same-list (row-at xs i)) ys ≡ false → written (take (4 * count) values ++ take 4 (drop (4 * i) xs) ++ drop (4 * count + 4) values) (count + 1) ≡ stored (found xs (i + 1) ys)
+    pub found-written : (values : List ℕ) (count : ℕ) → length xs ≡ 4 * max-rows → rows-with values count ≡ stored (found xs i ys) → any-of (same-list (row-at xs i)) ys ≡ false → rows-with (take (4 * count) values ++ take 4 (drop (4 * i) xs) ++ drop (4 * count + 4) values) (count + 1) ≡ stored (found xs (i + 1) ys)
     found-written values count w e t =
-        (λ q. written (take (4 * (e q .count)) (e q .values) ++ row-at-taken xs i (omega (arith, few)) q ++ drop (4 * (e q .count) + 4) (e q .values)) (e q .count + 1))
-        ∙ (λ q. written (next q) (sym (length-append (found xs i ys) (row-at xs i ∷ [])) q))
+        (λ q. rows-with (take (4 * (e q .count)) (e q .values) ++ row-at-taken xs i (omega (arith, few)) q ++ drop (4 * (e q .count) + 4) (e q .values)) (e q .count + 1))
+        ∙ (λ q. rows-with (next q) (sym (length-append (found xs i ys) (row-at xs i ∷ [])) q))
         ∙ ap stored (sym (found-also t))
       where
         fewer : length (found xs i ys) < max-rows

@@ -7,13 +7,13 @@ use crate::row;
 ghost use mathlib.Core.Path.{_≡_};
 ghost use mathlib.Core.List.{[], map};
 ghost use Prim.Native.Nat.{_*_, _≤_};
-ghost use lib.ListN.{length, take};
+ghost use lib.ListN.{length, take, replicate};
 ghost use Rattle.calculus.specs.Sets.{any-of, same-list};
 ghost use Rattle.calculus.specs.Order.{Ascending};
 ghost use Rattle.calculus.specs.Rows.{row-below, only-in};
 ghost use Rattle.answer.specs.Code.Listing.{cut};
 ghost use Rattle.standing.specs.View.{max-rows, row-places, held-rows, stored};
-ghost use Rattle.standing.specs.Code.View.{InOrder, values-of, Passed, Parted};
+ghost use Rattle.standing.specs.Code.View.{rows-with, InOrder, values-of, Passed, Parted};
 ghost use Rattle.standing.specs.Change.{fronted};
 
 pub fn none() -> Rows
@@ -25,20 +25,18 @@ pub fn none() -> Rows
     }
 }
 
-// The n rows of k columns that stand one after the other in a list, each in its place.
-pub fn spread(numbers: &[u32], k: usize, n: usize) -> Rows
-    requires { ⌜ (k ≤ 4) × (n ≤ max-rows) × (n * k ≤ length (now numbers)) ⌝ }
-    ensures { λ r. ⌜ r ≡ stored (cut k n (now (numbers .entry))) ⌝ }
+// The n rows of k columns that stand one after the other in a list, each in its place; the places are zero before.
+pub fn spread(numbers: &[u32], k: usize, n: usize, values: &mut [u32])
+    requires { ⌜ (k ≤ 4) × (n ≤ max-rows) × (n * k ≤ length (now numbers)) × (now values ≡ replicate (4 * max-rows) 0) ⌝ }
+    ensures { λ _. ⌜ now (values .exit) ≡ stored (cut k n (now (numbers .entry))) .values ⌝ }
 {
-    let mut values = [0u32; NUMBERS];
     let mut i = 0;
     let mut at = 0;
     while i < n {
-        row::carry(numbers, at, k, &mut values, 4 * i);
+        row::carry(numbers, at, k, values, 4 * i);
         at += k;
         i += 1;
     }
-    Rows { values, count: n }
 }
 
 // The first place from j on, of the first m, whose row is not below x; every row before j is.
@@ -67,42 +65,41 @@ fn stands(ys: &[u32; NUMBERS], m: usize, j: usize, x: Quad) -> bool
     row::same(x, row::read(ys, j))
 }
 
-// The rows of the first list that the second has not; both are ascending.
-pub fn only_in(a: Rows, b: Rows) -> Rows
-    requires { ⌜ InOrder a × InOrder b ⌝ }
-    ensures { λ r. ⌜ r ≡ stored (only-in (held-rows a) (held-rows b)) ⌝ }
+// The first n rows of one list that are not among the first m of another, written into places that are zero before; both lists are ascending. How many they are.
+pub fn only_in(
+    xs: &[u32; NUMBERS],
+    n: usize,
+    ys: &[u32; NUMBERS],
+    m: usize,
+    values: &mut [u32],
+) -> usize
+    requires { ⌜ InOrder (rows-with (now xs) n) × InOrder (rows-with (now ys) m) × (now values ≡ replicate (4 * max-rows) 0) ⌝ }
+    ensures { λ r. ⌜ rows-with (now (values .exit)) r ≡ stored (only-in (held-rows (rows-with (now (xs .entry)) n)) (held-rows (rows-with (now (ys .entry)) m))) ⌝ }
 {
-    let xs = a.values;
-    let ys = b.values;
-    let n = a.count;
-    let m = b.count;
-    let mut values = [0u32; NUMBERS];
     let mut count = 0;
     let mut i = 0;
     let mut j = 0;
     while i < n {
-        let x = row::read(&xs, i);
-        j = skip(&ys, m, j, x);
-        if !stands(&ys, m, j, x) {
-            row::carry(&xs, 4 * i, 4, &mut values, 4 * count);
+        let x = row::read(xs, i);
+        j = skip(ys, m, j, x);
+        if !stands(ys, m, j, x) {
+            row::carry(xs, 4 * i, 4, values, 4 * count);
             count += 1;
         }
         i += 1;
     }
-    Rows { values, count }
+    count
 }
 
-// The first k values of each row, one row after the other at the front of a list.
-pub fn gather(rows: Rows, k: usize, out: &mut [u32])
-    requires { ⌜ (k ≤ 4) × (rows .count ≤ max-rows) × (rows .count * k ≤ length (now out)) ⌝ }
-    ensures { λ _. ⌜ now (out .exit) ≡ fronted (map (take k) (held-rows rows)) (now (out .entry)) ⌝ }
+// The first k values of each of the first n rows, one row after the other at the front of a list.
+pub fn gather(values: &[u32; NUMBERS], n: usize, k: usize, out: &mut [u32])
+    requires { ⌜ (k ≤ 4) × (n ≤ max-rows) × (n * k ≤ length (now out)) ⌝ }
+    ensures { λ _. ⌜ now (out .exit) ≡ fronted (map (take k) (held-rows (rows-with (now (values .entry)) n))) (now (out .entry)) ⌝ }
 {
-    let values = rows.values;
-    let n = rows.count;
     let mut i = 0;
     let mut at = 0;
     while i < n {
-        row::carry(&values, 4 * i, k, out, at);
+        row::carry(values, 4 * i, k, out, at);
         at += k;
         i += 1;
     }

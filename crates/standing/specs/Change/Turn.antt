@@ -26,12 +26,11 @@ use Rattle.query.specs.declared.Query.{Query}
 use Rattle.query.specs.Reading.{pool, formula}
 use Rattle.answer.specs.Reply.{result-of}
 use Rattle.standing.specs.declared.View.{View}
-use Rattle.standing.specs.declared.Current.{Current}
 use Rattle.standing.specs.declared.Change.{Change}
 use Rattle.standing.specs.View.{max-rows, stored, kept, mark}
 use Rattle.standing.specs.Checks.{is-over, is-past, report-checks}
 use Rattle.standing.specs.Change.{joining, leaving, turn-reply, refusal}
-use Rattle.standing.specs.Code.Change.{current, maintained}
+use Rattle.standing.specs.Code.Change.{Current, current, maintained}
 
 -- ---- what a query answers
 

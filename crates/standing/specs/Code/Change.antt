@@ -1,6 +1,6 @@
 -- How the code opens and changes a list, part by part. Definitions only; the laws are in Change/.
 use Prim.Native.Nat.{ℕ}
-use mathlib.Core.Bool.{true, false, cond}
+use mathlib.Core.Bool.{Bool, true, false, cond}
 use mathlib.Core.List.{List, []}
 use lib.ListN.{length}
 use lib.Dec.{T}
@@ -15,14 +15,26 @@ use Rattle.query.specs.declared.Query.{Query}
 use Rattle.query.specs.declared.Reading.{Reading}
 use Rattle.query.specs.Reading.{constants-of, nodes-of, formula, read-reply}
 use Rattle.answer.specs.Reply.{result-of}
+use Rattle.standing.specs.declared.Rows.{Rows}
 use Rattle.standing.specs.declared.View.{View}
-use Rattle.standing.specs.declared.Current.{Current}
+use Rattle.standing.specs.declared.Told.{Told}
 use Rattle.standing.specs.declared.Change.{Change}
 use Rattle.standing.specs.View.{stored, kept, mark, suits}
+use Rattle.standing.specs.Code.View.{rows-with}
 use Rattle.standing.specs.Checks.{Kind, put, removal, is-over}
 use Rattle.standing.specs.Change.{begin-checks, ready-checks, turn-checks, turn-reply}
 
--- Rows found anew: whether they are over `max-rows`, and else the rows and the mark.
+-- Rows found anew: whether they are over `max-rows`, and else the mark and the rows.
+pub record Current : Type 0 where
+  pub over : Bool
+  pub endless : Bool
+  pub rows : Rows
+
+-- They as the code has them: what is told of them, and the values in their places.
+abbrev pub told : Told → List ℕ → Current
+told f values = record { over = f .over; endless = f .endless; rows = rows-with values (f .count) }
+
+-- They as the query answers.
 abbrev pub current : Result → Current
 current found =
     cond

@@ -9,6 +9,10 @@ use Rattle.standing.specs.declared.Quad.{Quad}
 use Rattle.standing.specs.declared.Rows.{Rows}
 use Rattle.standing.specs.View.{max-rows, held-rows}
 
+-- Values and a count, as rows.
+abbrev pub rows-with : List ℕ → ℕ → Rows
+rows-with values count = record { values = values; count = count }
+
 -- At most `max-rows` rows, strictly ascending in their places.
 abbrev pub InOrder : Rows → Type 0
 InOrder r = (r .count ≤ max-rows) × Ascending row-below (held-rows r)
