@@ -1,19 +1,10 @@
 // The time of a call beside another's, for the parts of the benchmark that have no database beside them.
 #ifndef TIMING_H
 #define TIMING_H
+#include "clock.h"
 #include <stdint.h>
-#include <stdlib.h>
-#include <time.h>
-
-enum { BATCHES = 7 };
 
 typedef uint32_t Run(void *);
-
-static double now(void) {
-    struct timespec t;
-    clock_gettime(CLOCK_MONOTONIC, &t);
-    return (double)t.tv_sec + 1e-9 * (double)t.tv_nsec;
-}
 
 static volatile uint32_t kept;  // so that no run is left out
 
@@ -27,16 +18,6 @@ static double batch(Run *run, void *work) {
         spent = now() - start;
     } while (spent < 5e-3);
     return spent / n;
-}
-
-static int by_time(const void *a, const void *b) {
-    double x = *(const double *)a, y = *(const double *)b;
-    return (x > y) - (x < y);
-}
-
-static double median(double *times) {
-    qsort(times, BATCHES, sizeof times[0], by_time);
-    return times[BATCHES / 2];
 }
 
 // Seconds of one run of each: the median of several batches, taken in turn, so that a busy machine slows both down alike.

@@ -806,6 +806,19 @@ def for_all(rng, names):
     return denied(under(bound, joined_records if rng.random() < 0.3 else bracketed(rng, ands, guards + [denied(body)])))
 
 
+def for_alls(rng, names):
+    """For-alls beside each other and one within another: of equalities with what is bound, of records, of both; the same variable bound in several."""
+    def one(depth):
+        z = rng.choice(names)
+        sides = [same(*rng.sample([x, z], 2)) for x in rng.sample(names, rng.choice([0, 1, 1, 2]))]
+        sides += [perhaps_denied(rng, about(rng, names, rng.choice([z, z, *names])), 0.3) for _ in range(rng.choice([1, 1, 2]))]
+        if depth and rng.random() < 0.4:
+            sides.append(perhaps_denied(rng, one(depth - 1), 0.3))
+        return denied(under([z], denied(bracketed(rng, rng.choice([ors, ors, ands]), sides))))
+
+    return bracketed(rng, ands, [one(1) for _ in range(rng.choice([1, 2, 2]))] + [about(rng, names, rng.choice(names)) for _ in range(rng.choice([0, 0, 1]))])
+
+
 def hides(rng, names):
     """Records most of whose variables are bound, and stand nowhere else in what is bound."""
     def part():
@@ -832,7 +845,7 @@ def unbounded(rng, names):
     return perhaps_denied(rng, under(some_names(rng, names)[1:], bracketed(rng, rng.choice([ands, ands, ors]), parts)), 0.3)
 
 
-SHAPES = [clash, twice, ors_under_exists, for_all, hides, equals, unbounded]
+SHAPES = [clash, twice, ors_under_exists, for_all, for_alls, hides, equals, unbounded]
 
 
 def goal_query(rng, shape, names):

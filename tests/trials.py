@@ -113,7 +113,7 @@ def compare(where, chosen):
 
 
 RANDOM = [(cases.random_query_cases, 400), (cases.random_store_cases, 40), (cases.random_verdict_cases, 400), (cases.random_answer_cases, 300),
-          (cases.random_prenex_cases, 100), (cases.random_join_cases, 400), (cases.random_goal_cases, 210), (cases.random_row_cases, 300),
+          (cases.random_prenex_cases, 100), (cases.random_join_cases, 400), (cases.random_goal_cases, 240), (cases.random_row_cases, 300),
           (cases.random_run_cases, 6)]
 
 
