@@ -12,7 +12,7 @@ use lib.Seq.{drop-cons}
 use lib.Dec.{eqb, ltb}
 use borrow.Author.Tests.{lt-ltb, le-ltb, le-leb, lt-leb, eq-eqb, ne-eqb, eqb-true, eqb-false, not-true, not-false}
 use Rattle.calculus.specs.Sets.{all-of, same-list}
-use Rattle.calculus.specs.Order.{is-ascending, lexicographic}
+use Rattle.calculus.specs.Order.{lexicographic}
 use Rattle.calculus.specs.Order.Laws.{below-differ, same-differ, below-agree, same-agree, below-at-first, same-at-first, below-at-second, same-at-second, below-at-third, same-at-third, below-at-fourth, same-at-fourth}
 use Rattle.causes.specs.declared.Answer.{Answer}
 use Rattle.causes.specs.declared.Answer.the-variants.{Done, Refused}
@@ -24,6 +24,7 @@ use Rattle.tables.specs.declared.Changed.{Changed}
 use Rattle.tables.specs.Records.{record-below, same-record, width, fits, values-of, is-blank, blank}
 use Rattle.tables.specs.Store.{places, places-of, record-at, held, unused, judgement, of-places, store-of, no-store}
 use Rattle.tables.specs.Code.Store.{set-values}
+use Rattle.tables.specs.Code.Layout.{orderly}
 use Rattle.tables.specs.Store.Laws.{length-places}
 use Rattle.tables.specs.Store.Places.{length-set-values, places-set, insert-at, remove-at, insert-at-next, insert-at-end, insert-at-split, remove-at-next, remove-at-end, remove-at-split, store-placed}
 use Rattle.tables.specs.Code.Change.{located, found, raised, lowered, insertion, deletion}
@@ -217,17 +218,14 @@ module _ (s : Store) (w : widths-fit (s .widths) ≡ true) where
   judged-many h = rw (w, lt-leb (s .count) 256 h)
 
   module _ (h : s .count ≤ 256) where
-    pub judged-unfit : all-of (fits (s .widths)) (held s) ≡ false → Refused 2 0 ≡ judgement s
-    judged-unfit e = rw (w, le-leb (s .count) 256 h, e)
+    pub judged-disordered : orderly (s .widths) (held s) ≡ false → Refused 2 0 ≡ judgement s
+    judged-disordered e = rw (w, le-leb (s .count) 256 h, e)
 
-    pub judged-unordered : all-of (fits (s .widths)) (held s) ≡ true → is-ascending record-below (held s) ≡ false → Refused 2 0 ≡ judgement s
-    judged-unordered e f = rw (w, le-leb (s .count) 256 h, e, f)
+    pub judged-full : orderly (s .widths) (held s) ≡ true → all-of is-blank (unused s) ≡ false → Refused 2 0 ≡ judgement s
+    judged-full e f = rw (w, le-leb (s .count) 256 h, e, f)
 
-    pub judged-full : all-of (fits (s .widths)) (held s) ≡ true → is-ascending record-below (held s) ≡ true → all-of is-blank (unused s) ≡ false → Refused 2 0 ≡ judgement s
-    judged-full e f g = rw (w, le-leb (s .count) 256 h, e, f, g)
-
-    pub judged-done : all-of (fits (s .widths)) (held s) ≡ true → is-ascending record-below (held s) ≡ true → all-of is-blank (unused s) ≡ true → Done ≡ judgement s
-    judged-done e f g = rw (w, le-leb (s .count) 256 h, e, f, g)
+    pub judged-done : orderly (s .widths) (held s) ≡ true → all-of is-blank (unused s) ≡ true → Done ≡ judgement s
+    judged-done e f = rw (w, le-leb (s .count) 256 h, e, f)
 
 -- An answer and a store.
 abbrev changed : Answer → Store → Changed

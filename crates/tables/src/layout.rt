@@ -8,12 +8,13 @@ use crate::place;
 use causes::Answer;
 use causes::RELATIONS;
 ghost use mathlib.Core.Path.{_≡_};
-ghost use Prim.Native.Nat.{_≤_};
+ghost use mathlib.Core.Bool.{_&&_};
+ghost use Prim.Native.Nat.{_≤_, _<_};
 ghost use lib.ListN.{take, drop};
 ghost use Rattle.calculus.specs.Sets.{all-of};
-ghost use Rattle.calculus.specs.Order.{is-ascending};
 ghost use Rattle.tables.specs.Records.{fits, record-below, is-blank};
-ghost use Rattle.tables.specs.Store.{capacity, places, judgement};
+ghost use Rattle.tables.specs.Store.{capacity, record-at, places, judgement};
+ghost use Rattle.tables.specs.Code.Layout.{top-of, highest-of, within, goes-on, RunTo, orderly};
 
 // Whether a record is of a present relation and has zeros past its width. Where not, cause 13 is met.
 pub fn record_fits(widths: &[u8; RELATIONS], r: Record) -> bool
@@ -39,40 +40,102 @@ pub fn record_fits(widths: &[u8; RELATIONS], r: Record) -> bool
     true
 }
 
-// Whether each of the first count records fits the widths.
-fn all_fit<'a>(
+// The greatest value that a record of this width has at a place, from 1 for its second value on.
+fn top(width: u8, place: u8) -> u32
+    ensures { λ v. ⌜ v ≡ top-of width place ⌝ }
+{
+    if width <= place {
+        return 0;
+    }
+    4294967295
+}
+
+// The greatest record of a relation of this width.
+fn highest(relation: u8, width: u8) -> Record
+    ensures { λ r. ⌜ r ≡ highest-of relation width ⌝ }
+{
+    let second = top(width, 1);
+    let third = top(width, 2);
+    let fourth = top(width, 3);
+    Record {
+        relation,
+        first: 4294967295,
+        second,
+        third,
+        fourth,
+    }
+}
+
+// Whether the next record goes on with a run: it is of the limit's relation, no value is above the limit's, and it is above the last record.
+fn continues(limit: Record, last: Record, next: Record) -> bool
+    ensures { λ b. ⌜ b ≡ within limit next && record-below last next ⌝ }
+{
+    if next.relation != limit.relation {
+        return false;
+    }
+    if limit.second < next.second {
+        return false;
+    }
+    if limit.third < next.third {
+        return false;
+    }
+    if limit.fourth < next.fourth {
+        return false;
+    }
+    order::below(last, next)
+}
+
+// The end of the run of a relation that starts at a place: the first place after it whose record doesn't go on with the one before, or the count.
+fn run_end<'a>(
+    relation: u8,
+    width: u8,
+    relations: &'a [u8; PLACES],
+    values: &'a [u32; VALUES],
+    start: usize,
+    count: usize,
+) -> usize
+    requires { ⌜ (0 < width) × (start < count) × (count ≤ capacity) ⌝ }
+    ensures { λ j. ⌜ RunTo (goes-on relation width (record-at (now (relations .entry)) (now (values .entry)))) start count j ⌝ }
+{
+    let limit = highest(relation, width);
+    let mut i = start + 1;
+    while i < count {
+        if !continues(
+            limit,
+            place::read(relations, values, i - 1),
+            place::read(relations, values, i),
+        ) {
+            return i;
+        }
+        i += 1;
+    }
+    i
+}
+
+// Whether the first count records fit the widths and are strictly ascending. One pass goes over them in runs of one relation: the records of a run have one limit,
+// so that the width is looked up once for each run. Where a run ends at a record that is of no later relation, that record doesn't fit or doesn't ascend.
+fn is_orderly<'a>(
     widths: &[u8; RELATIONS],
     relations: &'a [u8; PLACES],
     values: &'a [u32; VALUES],
     count: usize,
 ) -> bool
     requires { ⌜ count ≤ capacity ⌝ }
-    ensures { λ b. ⌜ b ≡ all-of (fits (now (widths .entry))) (take count (places (now (relations .entry)) (now (values .entry)))) ⌝ }
+    ensures { λ b. ⌜ b ≡ orderly (now (widths .entry)) (take count (places (now (relations .entry)) (now (values .entry)))) ⌝ }
 {
+    let mut least = 0;
     let mut i = 0;
     while i < count {
-        if !record_fits(widths, place::read(relations, values, i)) {
+        let r = place::read(relations, values, i);
+        let relation = r.relation as usize;
+        if relation < least {
             return false;
         }
-        i += 1;
-    }
-    true
-}
-
-// Whether the first count records are strictly ascending.
-fn all_ascend<'a>(relations: &'a [u8; PLACES], values: &'a [u32; VALUES], count: usize) -> bool
-    requires { ⌜ count ≤ capacity ⌝ }
-    ensures { λ b. ⌜ b ≡ is-ascending record-below (take count (places (now (relations .entry)) (now (values .entry)))) ⌝ }
-{
-    let mut i = 1;
-    while i < count {
-        if !order::below(
-            place::read(relations, values, i - 1),
-            place::read(relations, values, i),
-        ) {
+        if !record_fits(widths, r) {
             return false;
         }
-        i += 1;
+        least = relation + 1;
+        i = run_end(r.relation, widths[relation], relations, values, i, count);
     }
     true
 }
@@ -113,10 +176,7 @@ pub fn judge(s: Store) -> Answer
     if PLACES < count {
         return Answer::Refused(2, 0);
     }
-    if !all_fit(&widths, &relations, &values, count) {
-        return Answer::Refused(2, 0);
-    }
-    if !all_ascend(&relations, &values, count) {
+    if !is_orderly(&widths, &relations, &values, count) {
         return Answer::Refused(2, 0);
     }
     if !rest_blank(&relations, &values, count) {
