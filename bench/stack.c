@@ -23,7 +23,7 @@ extern uint64_t palmrummy_change(const uint8_t *widths, const uint8_t *relations
                                  size_t left_room);
 #endif
 
-enum { NODES = 64, STACK = 1 << 20, BOUND = 208 * 1024, CHANGE_BOUND = 300 * 1024, HOST_BOUND = 208 * 1024, VERDICT_BOUND = 48 * 1024, RULE_BOUND = 16 * 1024, ROOM = 4096, RECORDS = 2, NUMBERS = 2048 };
+enum { NODES = 64, STACK = 1 << 20, BOUND = 240 * 1024, CHANGE_BOUND = 320 * 1024, HOST_BOUND = 240 * 1024, VERDICT_BOUND = 48 * 1024, RULE_BOUND = 16 * 1024, ROOM = 4096, RECORDS = 2, NUMBERS = 2048 };
 
 static uint8_t widths[16] = {0, 2}, relations[256] = {1, 1};
 static uint32_t values[1024] = {0, 7, 0, 0, 7, 0, 0, 0};
