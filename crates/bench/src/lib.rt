@@ -16,7 +16,7 @@ ghost use mathlib.Core.Path.{_≡_};
 ghost use Prim.Native.Nat.{_<_};
 ghost use Rattle.query.specs.Reading.{max-nodes};
 ghost use Rattle.answer.specs.Reply.{found-of};
-ghost use Rattle.standing.specs.Checks.{kind-of};
+ghost use Rattle.standing.specs.Checks.{action-of};
 ghost use Rattle.standing.specs.Change.{change-of};
 ghost use Rattle.bench.specs.Entry.{refusal, store-with, coded, view-with, record-with, coded-change};
 
@@ -125,7 +125,7 @@ fn change(
     joined: &mut [u32],
     left: &mut [u32],
 ) -> Change
-    ensures { λ r. ⌜ (r, (now (joined .exit), now (left .exit))) ≡ change-of (kind-of removal) store view (now (bytes .entry)) tuple (now (joined .entry)) (now (left .entry)) ⌝ }
+    ensures { λ r. ⌜ (r, (now (joined .exit), now (left .exit))) ≡ change-of (action-of removal tuple) store view (now (bytes .entry)) (now (joined .entry)) (now (left .entry)) ⌝ }
 {
     if removal {
         return standing::remove(store, view, bytes, tuple, joined, left);
@@ -154,7 +154,7 @@ pub extern "C" fn palmrummy_change<'a>(
     joined: &mut [u32],
     left: &mut [u32],
 ) -> u64
-    ensures { λ r. ⌜ (r, (now (joined .exit), now (left .exit))) ≡ coded-change (change-of (kind-of removal) (store-with (now (widths .entry)) (now (relations .entry)) (now (values .entry)) count) (view-with (now (variables .entry)) columns (now (rows .entry)) held endless (now (counts .entry))) (now (bytes .entry)) (record-with relation (now (tuple .entry))) (now (joined .entry)) (now (left .entry))) ⌝ }
+    ensures { λ r. ⌜ (r, (now (joined .exit), now (left .exit))) ≡ coded-change (change-of (action-of removal (record-with relation (now (tuple .entry)))) (store-with (now (widths .entry)) (now (relations .entry)) (now (values .entry)) count) (view-with (now (variables .entry)) columns (now (rows .entry)) held endless (now (counts .entry))) (now (bytes .entry)) (now (joined .entry)) (now (left .entry))) ⌝ }
 {
     let store = store_of(widths, relations, values, count);
     let view = view_of(variables, columns, rows, held, endless, counts);

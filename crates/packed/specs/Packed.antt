@@ -15,10 +15,8 @@ use Rattle.causes.specs.declared.Answer.the-variants.{Done, Refused}
 use Rattle.causes.specs.Causes.{Check, check, first-cause, when}
 use Rattle.tables.specs.declared.Record.{Record}
 use Rattle.tables.specs.declared.Store.{Store}
-use Rattle.tables.specs.Records.{record-below, fits}
-use Rattle.tables.specs.Store.{capacity}
-use Rattle.tables.specs.Change.{is-held}
-use Rattle.tables.specs.Fill.{fill-reply}
+use Rattle.tables.specs.Records.{record-below}
+use Rattle.tables.specs.Fill.{fill-checks, fill-reply}
 use Rattle.query.specs.declared.Query.{Query}
 use Rattle.query.specs.declared.Columns.{Columns}
 use Rattle.query.specs.Reading.{byte-at, word-at, read-of, read-checks, columns-of, formula}
@@ -26,6 +24,7 @@ use Rattle.verdict.specs.declared.Verdict.{Verdict}
 use Rattle.verdict.specs.Verdict.{judged, refusal as verdict-refusal}
 use Rattle.answer.specs.declared.Found.{Found}
 use Rattle.answer.specs.Reply.{result-of, row-checks, Writing, front, front-bytes, worked-by, RightOver, KnownTo}
+use Rattle.packed.specs.declared.part.Head.{Head}
 use Rattle.packed.specs.declared.Listing.{Listing}
 pub mod Laws
 pub mod Places
@@ -34,15 +33,24 @@ pub mod Right
 
 -- ---- the parts, all high byte first
 
--- Sixteen width bytes.
+-- The head of an input, before its records, and its length in bytes: sixteen width bytes, and a record count of 2 bytes.
+abbrev pub head-length : ℕ
+head-length = 18
+
+abbrev pub head-in : List ℕ → Head
+head-in bs = record { widths = take 16 bs; count = byte-at bs 16 * 256 + byte-at bs 17 }
+
 abbrev pub widths-in : List ℕ → List ℕ
-widths-in bs = take 16 bs
+widths-in bs = head-in bs .widths
 
--- A record count of 2 bytes.
 abbrev pub count-in : List ℕ → ℕ
-count-in bs = byte-at bs 16 * 256 + byte-at bs 17
+count-in bs = head-in bs .count
 
--- Records of 17 bytes: a relation, and four values of 4 bytes.
+-- The length of a record in bytes: a relation, and four values of 4 bytes.
+abbrev pub record-length : ℕ
+record-length = 17
+
+-- The record that starts at a byte.
 abbrev pub record-from : List ℕ → ℕ → Record
 record-from bs i =
     record {
@@ -53,29 +61,31 @@ record-from bs i =
       fourth = word-at bs (i + 13);
     }
 
+-- The byte at which record i starts; the query starts where the records end.
+abbrev pub start : ℕ → ℕ
+start i = head-length + record-length * i
+
 abbrev pub record-at : List ℕ → ℕ → Record
-record-at bs i = record-from bs (18 + 17 * i)
+record-at bs i = record-from bs (start i)
 
 abbrev pub records-in : List ℕ → List Record
 records-in bs = tabulate (record-at bs) (count-in bs)
 
--- The query of the input: the rest, which starts where the records end.
+-- The query of the input: the rest.
 abbrev pub query-in : List ℕ → List ℕ
-query-in bs = drop (18 + 17 * count-in bs) bs
+query-in bs = drop (start (count-in bs)) bs
 
 -- ---- the checks
 
 -- Cause 2: an input that ends early, before its query, or is over 8,192 bytes.
 abbrev pub is-whole : List ℕ → Bool
-is-whole bs = leb (length bs) 8192 && leb 18 (length bs) && leb (18 + 17 * count-in bs) (length bs)
+is-whole bs = leb (length bs) 8192 && leb head-length (length bs) && leb (start (count-in bs)) (length bs)
 
--- Each record in turn meets 13, then 15, with the records ps held before it; a repeat takes no place.
+-- Each record in turn meets 13, then 15, with the records ps held before it.
 abbrev pub record-checks : List ℕ → List Record → List Record → List Check
 record-checks ws ps [] = []
 record-checks ws ps (r ∷ rs) =
-    check 13 (when (not (fits ws r)))
-    ∷ check 15 (when (not (is-held r ps) && leb capacity (length ps)))
-    ∷ record-checks ws (insert record-below r ps) rs
+    fill-checks ws ps r ++ record-checks ws (insert record-below r ps) rs
 
 -- The checks of an input: 2 before 1; then the causes by number, the query's before the records'.
 abbrev pub input-checks : List ℕ → List Check

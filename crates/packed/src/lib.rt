@@ -80,8 +80,9 @@ fn take(bytes: &[u8]) -> Input
     if !extent.whole {
         return refused(2, 0);
     }
-    let widths = part::widths(bytes);
-    let n = extent.count;
+    let head = extent.head;
+    let widths = head.widths;
+    let n = head.count;
     let from = HEAD + RECORD * n;
     let reading = query::read(&bytes[from..], widths);
     let answer = reading.answer;

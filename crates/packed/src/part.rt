@@ -1,5 +1,5 @@
-// The parts of a packed input: whether they are all there, the record count, the widths, and the records, which fill a store. For `take` alone (the module is
-// not public): it asks for bytes that are there, having judged the length by `measure` first.
+// The parts of a packed input: whether they are all there, the head, and the records, which fill a store. For `take` alone (the module is not public): it asks
+// for bytes that are there, having judged the length by `measure` first.
 use crate::HEAD;
 use crate::LIMIT;
 use crate::RECORD;
@@ -7,27 +7,42 @@ use causes::RELATIONS;
 use tables::Changed;
 use tables::Record;
 ghost use mathlib.Core.Path.{_≡_};
-ghost use Prim.Native.Nat.{_+_, _*_, _≤_, _<_};
+ghost use Prim.Native.Nat.{_+_, _≤_, _<_};
 ghost use lib.ListN.{length};
 ghost use Rattle.calculus.specs.Lists.{tabulate};
 ghost use Rattle.tables.specs.Code.Fill.{beginning, collect-all};
-ghost use Rattle.packed.specs.Packed.{widths-in, count-in, record-from, record-at};
+ghost use Rattle.packed.specs.Packed.{head-length, head-in, record-length, record-from, start, record-at};
 ghost use Rattle.packed.specs.Code.Packed.{no-extent, extent-of};
 
-// How far an input reaches: whether it is whole, and then the number of its records.
-pub struct Extent {
-    pub whole: bool,
+// The head of an input: the sixteen widths, and the number of records.
+pub struct Head {
+    pub widths: [u8; RELATIONS],
     pub count: usize,
 }
 
-// The number of records.
-fn count(bytes: &[u8]) -> usize
-    requires { ⌜ 18 ≤ length (now bytes) ⌝ }
-    ensures { λ n. ⌜ (n ≡ count-in (now (bytes .entry))) × (n < 65536) ⌝ }
+// How far an input reaches: whether it is whole, and then its head.
+pub struct Extent {
+    pub whole: bool,
+    pub head: Head,
+}
+
+// The head of an input that is long enough to have one. No other function knows where its parts stand.
+fn read_head(bytes: &[u8]) -> Head
+    requires { ⌜ head-length ≤ length (now bytes) ⌝ }
+    ensures { λ h. ⌜ (h ≡ head-in (now (bytes .entry))) × (h .count < 65536) ⌝ }
 {
+    let mut widths = [0u8; RELATIONS];
+    let mut i = 0;
+    while i < RELATIONS {
+        widths[i] = bytes[i];
+        i += 1;
+    }
     let high = query::wide(bytes[16]);
     let low = query::wide(bytes[17]);
-    (high * 256 + low) as usize
+    Head {
+        widths,
+        count: (high * 256 + low) as usize,
+    }
 }
 
 // The extent of an input that ends before its query, or is over 8,192 bytes: cause 2 is met.
@@ -36,7 +51,10 @@ fn broken() -> Extent
 {
     Extent {
         whole: false,
-        count: 0,
+        head: Head {
+            widths: [0u8; RELATIONS],
+            count: 0,
+        },
     }
 }
 
@@ -51,30 +69,17 @@ pub fn measure(bytes: &[u8]) -> Extent
     if n < HEAD {
         return broken();
     }
-    let count = count(bytes);
+    let head = read_head(bytes);
+    let count = head.count;
     if n < HEAD + RECORD * count {
         return broken();
     }
-    Extent { whole: true, count }
-}
-
-// The sixteen widths.
-pub fn widths(bytes: &[u8]) -> [u8; RELATIONS]
-    requires { ⌜ 18 ≤ length (now bytes) ⌝ }
-    ensures { λ ws. ⌜ ws ≡ widths-in (now (bytes .entry)) ⌝ }
-{
-    let mut widths = [0u8; RELATIONS];
-    let mut i = 0;
-    while i < RELATIONS {
-        widths[i] = bytes[i];
-        i += 1;
-    }
-    widths
+    Extent { whole: true, head }
 }
 
 // The record that starts at a byte.
 fn record(bytes: &[u8], at: usize) -> Record
-    requires { ⌜ at + 17 ≤ length (now bytes) ⌝ }
+    requires { ⌜ at + record-length ≤ length (now bytes) ⌝ }
     ensures { λ r. ⌜ r ≡ record-from (now (bytes .entry)) at ⌝ }
 {
     Record {
@@ -88,7 +93,7 @@ fn record(bytes: &[u8], at: usize) -> Record
 
 // The store filled from the first n records: cause 1, then 13 and 15 record by record.
 pub fn fill(bytes: &[u8], widths: [u8; RELATIONS], n: usize) -> Changed
-    requires { ⌜ (18 + 17 * n ≤ length (now bytes)) × (n < 65536) ⌝ }
+    requires { ⌜ (start n ≤ length (now bytes)) × (n < 65536) ⌝ }
     ensures { λ c. ⌜ c ≡ collect-all (beginning widths) (tabulate (record-at (now (bytes .entry))) n) ⌝ }
 {
     let mut f = tables::fill::begin(widths);

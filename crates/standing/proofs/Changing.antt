@@ -10,7 +10,6 @@ use Rattle.causes.specs.declared.Answer.{Answer}
 use Rattle.causes.specs.declared.Answer.the-variants.{Done, Refused}
 use Rattle.causes.specs.Causes.{Check, first-cause}
 use Rattle.causes.specs.Causes.Laws.{first-done, later-done, first-passed}
-use Rattle.tables.specs.declared.Record.{Record}
 use Rattle.tables.specs.declared.Store.{Store}
 use Rattle.tables.specs.declared.Changed.{Changed}
 use Rattle.tables.specs.Store.{capacity, held, judgement}
@@ -23,20 +22,19 @@ use Rattle.answer.specs.Code.Reply.{Answerable}
 use Rattle.standing.specs.declared.View.{View}
 use Rattle.standing.specs.declared.Change.{Change}
 use Rattle.standing.specs.View.{suits}
-use Rattle.standing.specs.Checks.{Kind, view-checks, record-checks}
+use Rattle.standing.specs.Checks.{Action, view-checks, record-checks}
 use Rattle.standing.specs.Change.{begin-checks, ready-checks, refusal, store-after, change-of}
 use Rattle.standing.specs.Code.Change.{readied, Suits, altered, maintained}
 use Rattle.standing.specs.Change.Laws.{readied-cause, begun-judged, begun-answerable, readied-is}
 use Rattle.standing.specs.Change.Stores.{altered-is, after-judged}
 use Rattle.standing.specs.Change.Calls.{change-unready, change-refused, change-maintained}
 
--- A call of a kind, with what `ready` read.
+-- A call of an action, with what `ready` read.
 pub record Begun : Type 0 where
-  pub kind : Kind
+  pub action : Action
   pub store : Store
   pub view : View
   pub bytes : List ℕ
-  pub tuple : Record
   pub joined : List ℕ
   pub left : List ℕ
   pub reading : Reading
@@ -45,7 +43,7 @@ pub record Begun : Type 0 where
 
 -- Its reply, and the buffers after it.
 abbrev pub replied : Begun → Change × (List ℕ × List ℕ)
-replied b = change-of (b .kind) (b .store) (b .view) (b .bytes) (b .tuple) (b .joined) (b .left)
+replied b = change-of (b .action) (b .store) (b .view) (b .bytes) (b .joined) (b .left)
 
 -- A reply of `tables` carries its answer.
 reply-answer : (a : Answer) (s t : Store) → reply a s t .answer ≡ a
@@ -58,10 +56,10 @@ module _ (b : Begun) where
   cols = columns (formula (query-read (b .store) (b .bytes)))
 
   abbrev record-causes : List Check
-  record-causes = record-checks (b .kind) (b .store .widths) (held (b .store)) (b .tuple)
+  record-causes = record-checks (b .action) (b .store .widths) (held (b .store))
 
   abbrev after : Store
-  after = store-after (b .kind) (b .store) (b .tuple)
+  after = store-after (b .action) (b .store)
 
   -- The answer read is the first of the causes 1 to 10 and 12.
   ready-cause : (a : Answer) → b .reading .answer ≡ a → first-cause (ready-checks (b .store) (b .view) (b .bytes)) ≡ a
@@ -71,7 +69,7 @@ module _ (b : Begun) where
   pub unready : {c : Change} (n p : ℕ) → b .reading .answer ≡ Refused n p → c ≡ refusal n p (b .store) (b .view) → (c, (b .joined, b .left)) ≡ replied b
   unready n p e f =
       ap (λ d. (d, (b .joined, b .left))) f
-      ∙ sym (change-unready (b .kind) (b .store) (b .view) (b .bytes) (b .tuple) (b .joined) (b .left) n p (ready-cause (Refused n p) e))
+      ∙ sym (change-unready (b .action) (b .store) (b .view) (b .bytes) (b .joined) (b .left) n p (ready-cause (Refused n p) e))
 
   module _ (done : b .reading .answer ≡ Done) where
     ready-done : first-cause (ready-checks (b .store) (b .view) (b .bytes)) ≡ Done
@@ -97,9 +95,9 @@ module _ (b : Begun) where
         subst⁻¹ (λ r. Suits (b .view) (r .query)) reading-is
         (first-passed 12 (suits (b .view) cols) [] (later-done (begin-checks (b .store) (b .bytes)) (view-checks (b .view) cols) ready-done) .0)
 
-    module _ {changed : Changed} (changes : changed ≡ altered (b .kind) (b .store) (b .tuple)) where
+    module _ {changed : Changed} (changes : changed ≡ altered (b .action) (b .store)) where
       changed-is : changed ≡ reply (first-cause record-causes) (b .store) after
-      changed-is = changes ∙ altered-is (b .store) (b .tuple) store-judged (b .kind)
+      changed-is = changes ∙ altered-is (b .store) store-judged (b .action)
 
       -- The answer of `tables` is the first of the causes 13 to 16.
       record-cause : (a : Answer) → changed .answer ≡ a → first-cause record-causes ≡ a
@@ -109,7 +107,7 @@ module _ (b : Begun) where
       pub unchanged : {c : Change} (n p : ℕ) → changed .answer ≡ Refused n p → c ≡ refusal n p (b .store) (b .view) → (c, (b .joined, b .left)) ≡ replied b
       unchanged n p e f =
           ap (λ d. (d, (b .joined, b .left))) f
-          ∙ sym (change-refused (b .kind) (b .store) (b .view) (b .bytes) (b .tuple) (b .joined) (b .left) ready-done n p (record-cause (Refused n p) e))
+          ∙ sym (change-refused (b .action) (b .store) (b .view) (b .bytes) (b .joined) (b .left) ready-done n p (record-cause (Refused n p) e))
 
       module _ (altered-done : changed .answer ≡ Done) where
         store-is : changed .store ≡ after
@@ -122,10 +120,10 @@ module _ (b : Begun) where
             (subst⁻¹ (λ r. Answerable after (r .query) (r .columns)) reading-is
             (begun-answerable (b .store) (b .bytes) begin-done
             (subst (λ r. (i : ℕ) → getD (r .query .constants) i 0 < 2 ^ 32) reading-is (b .constants-fit))
-            after refl (after-judged (b .store) (b .tuple) store-judged (b .kind) (record-cause Done altered-done))))
+            after refl (after-judged (b .store) store-judged (b .action) (record-cause Done altered-done))))
 
         -- The reply is the one that `maintain` comes to.
         pub maintains : maintained (b .store) (changed .store) (b .view) (b .reading .query) (b .joined) (b .left) ≡ replied b
         maintains =
             (λ i. maintained (b .store) (store-is i) (b .view) (reading-is i .query) (b .joined) (b .left))
-            ∙ sym (change-maintained (b .kind) (b .store) (b .view) (b .bytes) (b .tuple) (b .joined) (b .left) ready-done (record-cause Done altered-done))
+            ∙ sym (change-maintained (b .action) (b .store) (b .view) (b .bytes) (b .joined) (b .left) ready-done (record-cause Done altered-done))

@@ -8,7 +8,6 @@ use Rattle.calculus.specs.Rows.{Row, Result, listed, only-in, numbers}
 use Rattle.causes.specs.declared.Answer.{Answer}
 use Rattle.causes.specs.declared.Answer.the-variants.{Done, Refused}
 use Rattle.causes.specs.Causes.{Check, check, first-cause, when}
-use Rattle.tables.specs.declared.Record.{Record}
 use Rattle.tables.specs.declared.Store.{Store}
 use Rattle.tables.specs.Store.{held, store-of, store-checks}
 use Rattle.query.specs.declared.Query.{Query}
@@ -18,7 +17,7 @@ use Rattle.standing.specs.declared.View.{View}
 use Rattle.standing.specs.declared.Opened.{Opened}
 use Rattle.standing.specs.declared.Change.{Change}
 use Rattle.standing.specs.View.{rows-in, kept, view-of}
-use Rattle.standing.specs.Checks.{Kind, view-checks, record-checks, records-after, is-over, report-checks}
+use Rattle.standing.specs.Checks.{Action, view-checks, record-checks, records-after, is-over, report-checks}
 pub mod Laws
 pub mod Stores
 pub mod Places
@@ -85,20 +84,20 @@ turn-reply Done s t v cols found first second =
     )
 turn-reply (Refused n p) s t v cols found first second = (refusal n p s v, (first, second))
 
--- The store after the change of one record.
-abbrev pub store-after : Kind → Store → Record → Store
-store-after kind s r = store-of (s .widths) (records-after kind r (held s))
+-- The store after a call.
+abbrev pub store-after : Action → Store → Store
+store-after action s = store-of (s .widths) (records-after action (held s))
 
 -- Causes 1 to 10, and 12.
 abbrev pub ready-checks : Store → View → List ℕ → List Check
 ready-checks s v bs = begin-checks s bs ++ view-checks v (columns (formula (query-read s bs)))
 
--- The reply to a put or removal of the record r, for the query in the bytes bs, over the store s and its list v; and the buffers after it.
-abbrev pub change-of : Kind → Store → View → List ℕ → Record → List ℕ → List ℕ → Change × (List ℕ × List ℕ)
-change-of kind s v bs r first second =
+-- The reply to a put or removal, for the query in the bytes bs, over the store s and its list v; and the buffers after it.
+abbrev pub change-of : Action → Store → View → List ℕ → List ℕ → List ℕ → Change × (List ℕ × List ℕ)
+change-of action s v bs first second =
     let q : Query = query-read s bs in
-    let t : Store = store-after kind s r in
+    let t : Store = store-after action s in
     let found : Result = result-of t q in
     turn-reply
-    (first-cause (ready-checks s v bs ++ (record-checks kind (s .widths) (held s) r ++ turn-checks v (columns (formula q)) found (length first) (length second))))
+    (first-cause (ready-checks s v bs ++ (record-checks action (s .widths) (held s) ++ turn-checks v (columns (formula q)) found (length first) (length second))))
     s t v (columns (formula q)) found first second

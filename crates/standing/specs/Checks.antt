@@ -3,42 +3,41 @@
 use Prim.Native.Nat.{ℕ, _*_, _^_}
 use mathlib.Core.Bool.{Bool, true, false, not, _||_}
 use mathlib.Core.List.{List, [], _∷_}
-use lib.ListN.{length}
 use lib.Dec.{ltb, leb}
 use Rattle.calculus.specs.Sets.{any-of}
 use Rattle.calculus.specs.Order.{insert}
 use Rattle.causes.specs.Causes.{Check, check, when}
 use Rattle.tables.specs.declared.Record.{Record}
 use Rattle.tables.specs.Records.{record-below, fits}
-use Rattle.tables.specs.Store.{capacity}
+use Rattle.tables.specs.Store.{has-room}
 use Rattle.tables.specs.Change.{is-held, without}
 use Rattle.standing.specs.declared.View.{View}
 use Rattle.standing.specs.View.{max-rows, suits}
 
--- A call that changes a record.
-pub data Kind : Type 0 where
-  put : Kind
-  removal : Kind
+-- What a call does to the records: a kind of call, with the record where it has one.
+pub data Action : Type 0 where
+  put : Record → Action
+  removal : Record → Action
 
--- The kind of a call that is told whether it removes.
-abbrev pub kind-of : Bool → Kind
-kind-of true = removal
-kind-of false = put
+-- The action of a call that is told whether it removes its record.
+abbrev pub action-of : Bool → Record → Action
+action-of true r = removal r
+action-of false r = put r
 
 -- Cause 12: not in the layout, or other columns.
 abbrev pub view-checks : View → List ℕ → List Check
 view-checks v cols = check 12 (when (not (suits v cols))) ∷ []
 
 -- Causes 13 to 16, by the widths and the records held.
-abbrev pub record-checks : Kind → List ℕ → List Record → Record → List Check
-record-checks put ws held r =
-    check 13 (when (not (fits ws r))) ∷ check 14 (when (is-held r held)) ∷ check 15 (when (leb capacity (length held))) ∷ []
-record-checks removal ws held r = check 13 (when (not (fits ws r))) ∷ check 16 (when (not (is-held r held))) ∷ []
+abbrev pub record-checks : Action → List ℕ → List Record → List Check
+record-checks (put r) ws held =
+    check 13 (when (not (fits ws r))) ∷ check 14 (when (is-held r held)) ∷ check 15 (when (not (has-room r held))) ∷ []
+record-checks (removal r) ws held = check 13 (when (not (fits ws r))) ∷ check 16 (when (not (is-held r held))) ∷ []
 
--- The records after the change: r is added in its place, or taken out.
-abbrev pub records-after : Kind → Record → List Record → List Record
-records-after put r held = insert record-below r held
-records-after removal r held = without r held
+-- The records after the call: its record is added in its place, or taken out.
+abbrev pub records-after : Action → List Record → List Record
+records-after (put r) held = insert record-below r held
+records-after (removal r) held = without r held
 
 -- Cause 17: over `max-rows` rows, or one of the three counts past what 64 bits hold.
 abbrev pub is-over : ℕ → Bool

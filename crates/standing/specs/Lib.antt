@@ -1,6 +1,7 @@
+pub mod Families
 pub mod View
 pub mod Checks
 pub mod Change
 pub mod Ledger
-pub mod Runs
 pub mod Code
+pub mod Runs

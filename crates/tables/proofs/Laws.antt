@@ -14,6 +14,7 @@ use borrow.Author.Tests.{lt-ltb, le-ltb, le-leb, lt-leb, eq-eqb, ne-eqb, eqb-tru
 use Rattle.calculus.specs.Sets.{all-of, same-list}
 use Rattle.calculus.specs.Order.{lexicographic}
 use Rattle.calculus.specs.Order.Laws.{below-differ, same-differ, below-agree, same-agree, below-at-first, same-at-first, below-at-second, same-at-second, below-at-third, same-at-third, below-at-fourth, same-at-fourth}
+use Rattle.calculus.specs.Reflects.Laws.{reflects-true, reflects-T}
 use Rattle.causes.specs.declared.Answer.{Answer}
 use Rattle.causes.specs.declared.Answer.the-variants.{Done, Refused}
 use Rattle.causes.specs.Causes.{widths-fit}
@@ -22,10 +23,11 @@ use Rattle.tables.specs.declared.Store.{Store}
 use Rattle.tables.specs.declared.Spot.{Spot}
 use Rattle.tables.specs.declared.Changed.{Changed}
 use Rattle.tables.specs.Records.{record-below, same-record, width, fits, values-of, is-blank, blank}
-use Rattle.tables.specs.Store.{places, places-of, record-at, held, unused, judgement, of-places, store-of, no-store}
+use Rattle.tables.specs.Store.{capacity, places, places-of, record-at, held, unused, has-room, have-room, judgement, of-places, store-of, no-store}
 use Rattle.tables.specs.Code.Store.{set-values}
 use Rattle.tables.specs.Code.Layout.{orderly}
-use Rattle.tables.specs.Store.Laws.{length-places}
+use Rattle.tables.specs.Store.Room.{few-room}
+use Rattle.tables.specs.Store.Laws.{length-places, length-held}
 use Rattle.tables.specs.Store.Places.{length-set-values, places-set, insert-at, remove-at, insert-at-next, insert-at-end, insert-at-split, remove-at-next, remove-at-end, remove-at-split, store-placed}
 use Rattle.tables.specs.Code.Change.{located, found, raised, lowered, insertion, deletion}
 use Rattle.tables.specs.Change.{rank}
@@ -178,12 +180,12 @@ module _ (r : Record) where
 
 -- The arrays after a write, from those before it.
 pub record Written (rs vs : List ℕ) (i : ℕ) (r : Record) (now-rs now-vs : List ℕ) : Type 0 where
-  pub relations-long : length now-rs ≡ 256
+  pub relations-long : length now-rs ≡ capacity
   pub values-long : length now-vs ≡ 1024
   pub set-there : places now-rs now-vs ≡ set (places rs vs) i r
 
 module _ (rs vs : List ℕ) (i : ℕ) (r : Record) (now-rs now-vs : List ℕ) where
-  pub written : i < 256 → length rs ≡ 256 → length vs ≡ 1024 → (now-rs ≡ set rs i (r .relation)) × (now-vs ≡ set-values vs i r) → Written rs vs i r now-rs now-vs
+  pub written : i < capacity → length rs ≡ capacity → length vs ≡ 1024 → (now-rs ≡ set rs i (r .relation)) × (now-vs ≡ set-values vs i r) → Written rs vs i r now-rs now-vs
   written h lr lv e =
       record {
         relations-long = rw (e .0, length-set) lr;
@@ -192,10 +194,10 @@ module _ (rs vs : List ℕ) (i : ℕ) (r : Record) (now-rs now-vs : List ℕ) wh
       }
 
   module _ (w : Written rs vs i r now-rs now-vs) where
-    pub raise-turn : (next : Record) → i < 256 → next ≡ record-at rs vs i → insert-at (places now-rs now-vs) (i + 1) next ≡ insert-at (places rs vs) i r
+    pub raise-turn : (next : Record) → i < capacity → next ≡ record-at rs vs i → insert-at (places now-rs now-vs) (i + 1) next ≡ insert-at (places rs vs) i r
     raise-turn next h f = rw (w .set-there, f) (insert-at-next rs vs i r h)
 
-    pub lower-turn : i + 1 < 256 → r ≡ record-at rs vs (i + 1) → remove-at (places now-rs now-vs) (i + 1) ≡ remove-at (places rs vs) i
+    pub lower-turn : i + 1 < capacity → r ≡ record-at rs vs (i + 1) → remove-at (places now-rs now-vs) (i + 1) ≡ remove-at (places rs vs) i
     lower-turn h f = rw (w .set-there, f) (remove-at-next rs vs i h)
 
 pub lower-end : (rs vs now-rs now-vs : List ℕ) → Written rs vs 255 blank now-rs now-vs → (i : ℕ) (before : List Record) (k : ℕ) → i ≡ 255 → remove-at (places rs vs) i ≡ remove-at before k → places now-rs now-vs ≡ lowered before k
@@ -203,29 +205,33 @@ lower-end rs vs now-rs now-vs w i before k h g =
     w .set-there
     ∙ rw (← h) (remove-at-end (places rs vs) i blank (omega (arith, length-places rs vs)) ∙ ap (λ (ps : List Record). ps ++ (blank ∷ [])) (g ∙ remove-at-split before k))
 
-module _ (rs vs : List ℕ) (lr : length rs ≡ 256) (lv : length vs ≡ 1024) (ws : List ℕ) (n : ℕ) where
+module _ (rs vs : List ℕ) (lr : length rs ≡ capacity) (lv : length vs ≡ 1024) (ws : List ℕ) (n : ℕ) where
   -- The arrays of a store from its places.
   pub store-is : (ps : List Record) → places rs vs ≡ ps → _≡_ {A = Store} (record { widths = ws; relations = rs; values = vs; count = n }) (of-places ws ps n)
   store-is ps e = store-placed rs vs lr lv ws n ∙ ap (λ (qs : List Record). of-places ws qs n) e
 
-pub raise-end : (rs vs : List ℕ) (i : ℕ) (carried : Record) (before : List Record) (k : ℕ) (r : Record) → i ≡ 256 → insert-at (places rs vs) i carried ≡ insert-at before k r → places rs vs ≡ raised before k r
+pub raise-end : (rs vs : List ℕ) (i : ℕ) (carried : Record) (before : List Record) (k : ℕ) (r : Record) → i ≡ capacity → insert-at (places rs vs) i carried ≡ insert-at before k r → places rs vs ≡ raised before k r
 raise-end rs vs i carried before k r h e = sym (insert-at-end (places rs vs) carried) ∙ rw (length-places rs vs, ← h) (ap (take i) (e ∙ insert-at-split before k r))
 
 -- ---- the answers, from what the tests say
 
 module _ (s : Store) (w : widths-fit (s .widths) ≡ true) where
-  pub judged-many : 256 < s .count → Refused 2 0 ≡ judgement s
-  judged-many h = rw (w, lt-leb (s .count) 256 h)
+  pub judged-many : capacity < s .count → Refused 2 0 ≡ judgement s
+  judged-many h = rw (w, lt-leb (s .count) capacity h)
 
-  module _ (h : s .count ≤ 256) where
+  module _ (h : s .count ≤ capacity) where
+    -- The records of a count in range have room.
+    counted-room : have-room (held s) ≡ true
+    counted-room = reflects-true (reflects-T (have-room (held s))) (few-room (held s) (omega (arith, length-held s h)))
+
     pub judged-disordered : orderly (s .widths) (held s) ≡ false → Refused 2 0 ≡ judgement s
-    judged-disordered e = rw (w, le-leb (s .count) 256 h, e)
+    judged-disordered e = rw (w, le-leb (s .count) capacity h, counted-room, e)
 
     pub judged-full : orderly (s .widths) (held s) ≡ true → all-of is-blank (unused s) ≡ false → Refused 2 0 ≡ judgement s
-    judged-full e f = rw (w, le-leb (s .count) 256 h, e, f)
+    judged-full e f = rw (w, le-leb (s .count) capacity h, counted-room, e, f)
 
     pub judged-done : orderly (s .widths) (held s) ≡ true → all-of is-blank (unused s) ≡ true → Done ≡ judgement s
-    judged-done e f = rw (w, le-leb (s .count) 256 h, e, f)
+    judged-done e f = rw (w, le-leb (s .count) capacity h, counted-room, e, f)
 
 -- An answer and a store.
 abbrev changed : Answer → Store → Changed
@@ -242,6 +248,14 @@ module _ (s : Store) (r : Record) {p : Spot} (e : p ≡ located s r) where
   pub spot-held : found r (held s) ≡ p .held
   spot-held = sym (ap (λ (q : Spot). q .held) e)
 
+-- Whether a record has room, as the code tests it by the count.
+module _ (s : Store) (r : Record) (c : s .count ≤ capacity) where
+  pub count-full : capacity ≤ s .count → has-room r (held s) ≡ false
+  count-full h = le-ltb (length (held s)) capacity (omega (arith, length-held s c))
+
+  pub count-room : s .count < capacity → has-room r (held s) ≡ true
+  count-room h = lt-ltb (length (held s)) capacity (omega (arith, length-held s c))
+
 module _ (s : Store) (r : Record) where
   pub insertion-unfit : fits (s .widths) r ≡ false → changed (Refused 13 0) s ≡ insertion s r
   insertion-unfit e = rw e
@@ -253,11 +267,11 @@ module _ (s : Store) (r : Record) where
     pub insertion-held : found r (held s) ≡ true → changed (Refused 14 0) s ≡ insertion s r
     insertion-held f = rw (e, f)
 
-    pub insertion-full : found r (held s) ≡ false → 256 ≤ s .count → changed (Refused 15 0) s ≡ insertion s r
-    insertion-full f h = rw (e, f, le-leb 256 (s .count) h)
+    pub insertion-full : found r (held s) ≡ false → has-room r (held s) ≡ false → changed (Refused 15 0) s ≡ insertion s r
+    insertion-full f h = rw (e, f, h)
 
-    pub insertion-done : found r (held s) ≡ false → s .count < 256 → (k : ℕ) (t : Store) → k ≡ rank r (held s) → t ≡ of-places (s .widths) (raised (places-of s) k r) (s .count + 1) → changed Done t ≡ insertion s r
-    insertion-done f h k t g i = rw (e, f, lt-leb 256 (s .count) h) (ap (changed Done) (i ∙ ap (λ (j : ℕ). of-places (s .widths) (raised (places-of s) j r) (s .count + 1)) g))
+    pub insertion-done : found r (held s) ≡ false → has-room r (held s) ≡ true → (k : ℕ) (t : Store) → k ≡ rank r (held s) → t ≡ of-places (s .widths) (raised (places-of s) k r) (s .count + 1) → changed Done t ≡ insertion s r
+    insertion-done f h k t g i = rw (e, f, h) (ap (changed Done) (i ∙ ap (λ (j : ℕ). of-places (s .widths) (raised (places-of s) j r) (s .count + 1)) g))
 
     pub deletion-none : found r (held s) ≡ false → changed (Refused 16 0) s ≡ deletion s r
     deletion-none f = rw (e, f)
@@ -278,16 +292,16 @@ module _ (f : Changed) (r : Record) where
   collected-refused n p e = subst⁻¹ (λ (a : Answer). f ≡ collected-into f a r) e refl
 
   module _ (e : f .answer ≡ Done) where
-    pub collected-over : 256 < f .store .count → (s : Store) → s ≡ no-store → changed (Refused 2 0) s ≡ collected f r
-    collected-over h s k = subst⁻¹ (λ (a : Answer). changed (Refused 2 0) s ≡ collected-into f a r) e (rw (lt-ltb 256 (f .store .count) h) (ap (changed (Refused 2 0)) k))
+    pub collected-over : capacity < f .store .count → (s : Store) → s ≡ no-store → changed (Refused 2 0) s ≡ collected f r
+    collected-over h s k = subst⁻¹ (λ (a : Answer). changed (Refused 2 0) s ≡ collected-into f a r) e (rw (lt-ltb capacity (f .store .count) h) (ap (changed (Refused 2 0)) k))
 
-    module _ (h : f .store .count ≤ 256) (c : Changed) (i : c ≡ insertion (f .store) r) where
+    module _ (h : f .store .count ≤ capacity) (c : Changed) (i : c ≡ insertion (f .store) r) where
       collected-merged : merged f (c .answer) c ≡ collected f r
       collected-merged =
           subst⁻¹
           (λ (a : Answer). merged f (c .answer) c ≡ collected-into f a r)
           e
-          (rw (le-ltb 256 (f .store .count) h) (ap (λ (d : Changed). merged f (d .answer) d) i))
+          (rw (le-ltb capacity (f .store .count) h) (ap (λ (d : Changed). merged f (d .answer) d) i))
 
       pub collected-put : c .answer ≡ Done → c ≡ collected f r
       collected-put d = sym (ap (λ (a : Answer). merged f a c) d) ∙ collected-merged

@@ -2,7 +2,6 @@
 use Prim.Native.Nat.{ℕ, zero, suc}
 use mathlib.Core.Bool.{Bool, not, cond}
 use mathlib.Core.List.{List, [], _∷_}
-use lib.Dec.{leb}
 use Rattle.calculus.specs.Sets.{any-of, select}
 use Rattle.calculus.specs.Order.{insert}
 use Rattle.causes.specs.declared.Answer.{Answer}
@@ -12,7 +11,7 @@ use Rattle.tables.specs.declared.Record.{Record}
 use Rattle.tables.specs.declared.Store.{Store}
 use Rattle.tables.specs.declared.Changed.{Changed}
 use Rattle.tables.specs.Records.{record-below, same-record, fits}
-use Rattle.tables.specs.Store.{capacity, held, in-layout, store-of}
+use Rattle.tables.specs.Store.{held, has-room, in-layout, store-of}
 pub mod Laws
 
 -- Whether a record is among those held.
@@ -37,7 +36,7 @@ put-reply s r =
     ∷ check 2 (when (not (in-layout s)))
     ∷ check 13 (when (not (fits (s .widths) r)))
     ∷ check 14 (when (is-held r (held s)))
-    ∷ check 15 (when (leb capacity (s .count)))
+    ∷ check 15 (when (not (has-room r (held s))))
     ∷ []))
     s
     (store-of (s .widths) (insert record-below r (held s)))

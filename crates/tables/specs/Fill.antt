@@ -3,16 +3,14 @@
 use Prim.Native.Nat.{ℕ}
 use mathlib.Core.Bool.{not, _&&_}
 use mathlib.Core.List.{List, [], _∷_}
-use lib.ListN.{length}
-use lib.Dec.{leb}
 use Rattle.calculus.specs.Order.{insert}
 use Rattle.causes.specs.declared.Answer.{Answer}
 use Rattle.causes.specs.declared.Answer.the-variants.{Done, Refused}
-use Rattle.causes.specs.Causes.{check, first-cause, when, widths-fit}
+use Rattle.causes.specs.Causes.{Check, check, first-cause, when, widths-fit}
 use Rattle.tables.specs.declared.Record.{Record}
 use Rattle.tables.specs.declared.Changed.{Changed}
 use Rattle.tables.specs.Records.{record-below, fits}
-use Rattle.tables.specs.Store.{capacity, store-of, no-store}
+use Rattle.tables.specs.Store.{has-room, store-of, no-store}
 use Rattle.tables.specs.Change.{is-held}
 pub mod Laws
 
@@ -25,13 +23,14 @@ abbrev pub unless-refused : Answer → Changed → Changed
 unless-refused Done c = c
 unless-refused (Refused n p) c = refused-filling n p
 
--- The rest of a filling, with these records held: each record in turn meets 13, then 15; a repeat takes no place, and is kept once.
+-- The causes that a record meets in its turn, with these records held: 13, then 15; a repeat takes no place.
+abbrev pub fill-checks : List ℕ → List Record → Record → List Check
+fill-checks ws ps r = check 13 (when (not (fits ws r))) ∷ check 15 (when (not (is-held r ps) && not (has-room r ps))) ∷ []
+
+-- The rest of a filling, with these records held: each record in turn meets its causes, or joins them; a repeat is kept once.
 abbrev pub fill-from : List ℕ → List Record → List Record → Changed
 fill-from ws ps [] = record { answer = Done; store = store-of ws ps }
-fill-from ws ps (r ∷ rs) =
-    unless-refused
-    (first-cause (check 13 (when (not (fits ws r))) ∷ check 15 (when (not (is-held r ps) && leb capacity (length ps))) ∷ []))
-    (fill-from ws (insert record-below r ps) rs)
+fill-from ws ps (r ∷ rs) = unless-refused (first-cause (fill-checks ws ps r)) (fill-from ws (insert record-below r ps) rs)
 
 -- Filling meets 1, and starts from no records.
 abbrev pub fill-reply : List ℕ → List Record → Changed

@@ -1,10 +1,10 @@
 -- The store: document 01, "Tables and records", and causes 1 and 2. Definitions only; the laws are in Store/.
 use Prim.Native.Nat.{ℕ, _+_, _*_, _≤_, _-_}
 use mathlib.Core.Path.{_≡_}
-use mathlib.Core.Bool.{Bool, not, _&&_}
+use mathlib.Core.Bool.{Bool, true, not, _&&_}
 use mathlib.Core.List.{List, [], _∷_, map}
 use lib.ListN.{length, getD, take, drop, replicate}
-use lib.Dec.{leb, T}
+use lib.Dec.{leb, ltb, T}
 use Rattle.calculus.specs.Sets.{all-of, union-of, In}
 use Rattle.calculus.specs.Lists.{tabulate, padded}
 use Rattle.calculus.specs.Order.{is-ascending, Ascending}
@@ -14,6 +14,7 @@ use Rattle.causes.specs.Causes.{Check, check, first-cause, when, widths-fit}
 use Rattle.tables.specs.declared.Record.{Record}
 use Rattle.tables.specs.declared.Store.{Store}
 use Rattle.tables.specs.Records.{values-of, blank, record-below, is-blank, fits, fact-of}
+pub mod Room
 pub mod Laws
 pub mod Places
 
@@ -50,13 +51,24 @@ unused s = drop (s .count) (places-of s)
 abbrev pub facts : Store → Database
 facts s = map (fact-of (s .widths)) (held s)
 
--- The layout: at most 256 records, of present relations and zero past their widths, strictly ascending; places past the count all zero.
+-- Whether a record that isn't held has room beside those that are: fewer than 256 are held. Where not, cause 15 is met.
+abbrev pub has-room : Record → List Record → Bool
+has-room r ps = ltb (length ps) capacity
+
+-- Whether there is room for all these records: each has room beside those after it.
+abbrev pub have-room : List Record → Bool
+have-room [] = true
+have-room (r ∷ ps) = has-room r ps && have-room ps
+
+-- The layout: a count of at most 256 places, room for the records, which are of present relations and zero past their widths, strictly ascending;
+-- places past the count all zero.
 abbrev pub in-layout : Store → Bool
-in-layout s = leb (s .count) capacity && all-of (fits (s .widths)) (held s) && is-ascending record-below (held s) && all-of is-blank (unused s)
+in-layout s = leb (s .count) capacity && have-room (held s) && all-of (fits (s .widths)) (held s) && is-ascending record-below (held s) && all-of is-blank (unused s)
 
 -- The layout as a proposition; `reflects-layout` in the laws: the test decides it.
 pub record Layout (s : Store) : Type 0 where
   pub count-fits : s .count ≤ 256
+  pub room : T (have-room (held s))
   pub all-fit : (r : Record) → In r (held s) → T (fits (s .widths) r)
   pub ascending : Ascending record-below (held s)
   pub rest-blank : unused s ≡ replicate (256 - s .count) blank

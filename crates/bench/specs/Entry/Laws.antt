@@ -14,7 +14,7 @@ use Rattle.answer.specs.declared.Found.{Found}
 use Rattle.answer.specs.Reply.{found-of}
 use Rattle.standing.specs.declared.View.{View}
 use Rattle.standing.specs.declared.Change.{Change}
-use Rattle.standing.specs.Checks.{Kind}
+use Rattle.standing.specs.Checks.{action-of}
 use Rattle.standing.specs.Change.{change-of}
 use Rattle.bench.specs.Entry.{refusal, code, coded, change-code, coded-change}
 
@@ -39,8 +39,8 @@ module _ {f : Found} {out : List ℕ} {x : Found × List ℕ} (e : (f, out) ≡ 
 -- ---- a change
 
 -- What a change of equal stores and lists by equal records comes to.
-pub change-over : {s t : Store} {v w : View} {r q : Record} → s ≡ t → v ≡ w → r ≡ q → (kind : Kind) (bs first second : List ℕ) → change-of kind s v bs r first second ≡ change-of kind t w bs q first second
-change-over a b c kind bs first second = λ i. change-of kind (a i) (b i) bs (c i) first second
+pub change-over : {s t : Store} {v w : View} {r q : Record} → s ≡ t → v ≡ w → r ≡ q → (removes : Bool) (bs first second : List ℕ) → change-of (action-of removes r) s v bs first second ≡ change-of (action-of removes q) t w bs first second
+change-over a b c removes bs first second = λ i. change-of (action-of removes (c i)) (a i) (b i) bs first second
 
 module _ {c : Change} {out : List ℕ × List ℕ} {x : Change × (List ℕ × List ℕ)} (e : (c, out) ≡ x) where
   pub change-refused : (n p m : ℕ) → c .answer ≡ Refused n p → m ≡ refusal n p → (m, out) ≡ coded-change x

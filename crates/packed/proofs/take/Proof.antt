@@ -1,5 +1,5 @@
 -- `packed::take` meets its contract: whether the bytes are whole, the reading of the query, and the filling of the store decide in that order.
-use Prim.Native.Nat.{ℕ, _+_, _*_, _-_, _≤_, _<_}
+use Prim.Native.Nat.{ℕ, _-_, _≤_, _<_}
 use native.Mathlib.Omega.{arith}
 use borrow.Author.Needs.{needs}
 use borrow.Author.Tests.{not-true, not-false}
@@ -17,16 +17,16 @@ use Rattle.tables.specs.Fill.Laws.{fill-collects}
 use Rattle.query.specs.declared.Reading.{Reading}
 use Rattle.query.specs.Reading.{read-of}
 use Rattle.packed.specs.declared.Input.{Input}
-use Rattle.packed.specs.Packed.{widths-in, count-in, record-at, records-in, query-in, is-whole}
-use Rattle.packed.specs.Packed.Laws.{whole-lengths, extent-whole, extent-count, input-short, input-unread, input-unfilled, input-filled}
+use Rattle.packed.specs.Packed.{head-in, widths-in, count-in, start, record-at, records-in, query-in, is-whole}
+use Rattle.packed.specs.Packed.Laws.{whole-lengths, extent-whole, extent-head, input-short, input-unread, input-unfilled, input-filled}
 use Rattle.packed.proofs.take.Statement.{statement}
 use Rattle.packed.proofs.take.Tie as tie
 
 -- ---- of values
 
 -- The rest of the bytes is the query.
-rest : (bs : List ℕ) (n : ℕ) → n ≡ count-in bs → take (length bs - (18 + 17 * n)) (drop (18 + 17 * n) bs) ≡ query-in bs
-rest bs n e = take-all (length bs - (18 + 17 * n)) (drop (18 + 17 * n) bs) (omega (arith, length-drop (18 + 17 * n) bs)) ∙ ap (λ k. drop (18 + 17 * k) bs) e
+rest : (bs : List ℕ) (n : ℕ) → n ≡ count-in bs → take (length bs - start n) (drop (start n) bs) ≡ query-in bs
+rest bs n e = take-all (length bs - start n) (drop (start n) bs) (omega (arith, length-drop (start n) bs)) ∙ ap (λ k. drop (start k) bs) e
 
 -- The input of a filling and a reading.
 abbrev assembled : Changed → Reading → Input
@@ -47,21 +47,28 @@ whole c =
     let m = measured c in
     sym (extent-whole (bytes m)) ∙ ap (λ e. e .whole) (sym (m .measure .ensures)) ∙ not-false (m .measure .result .whole) (c .if1 .left)
 
-counts : (c : tie.Else1) → measured c .measure .result .count ≡ count-in (bytes (measured c))
-counts c = let m = measured c in ap (λ e. e .count) (m .measure .ensures) ∙ extent-count (bytes m) (whole c)
+heads : (c : tie.Else1) → measured c .measure .result .head ≡ head-in (bytes (measured c))
+heads c = let m = measured c in ap (λ e. e .head) (m .measure .ensures) ∙ extent-head (bytes m) (whole c)
+
+counts : (c : tie.Else1) → measured c .measure .result .head .count ≡ count-in (bytes (measured c))
+counts c = ap (λ h. h .count) (heads c)
 
 -- Its records reach no further than its bytes, which are at most 8,192.
-reaches : (c : tie.Else1) → let n = measured c .measure .result .count in (18 + 17 * n ≤ length (bytes (measured c))) × (n < 65536)
+reaches : (c : tie.Else1) → let n = measured c .measure .result .head .count in (start n ≤ length (bytes (measured c))) × (n < 65536)
 reaches c = let h = whole-lengths (bytes (measured c)) (whole c) in (omega (arith, h .2, counts c), omega (arith, h .0, h .2, counts c))
+
+-- The parts of its head are at hand.
+abbrev apart : tie.After-widths → tie.Else1
+apart c = c .before .before
 
 -- The query is read.
 abbrev entire : tie.After-read → tie.Else1
-entire c = c .before .before .before
+entire c = apart (c .before .before)
 
 reading : (c : tie.After-read) → let bs = bytes (measured (entire c)) in c .read .result ≡ read-of (widths-in bs) (query-in bs)
 reading c =
     let w = entire c in let bs = bytes (measured w) in
-    c .read .ensures ∙ (λ j. read-of (c .before .before .widths .ensures j) (rest bs (measured w .measure .result .count) (counts w) j))
+    c .read .ensures ∙ (λ j. read-of (heads w j .widths) (rest bs (measured w .measure .result .head .count) (counts w) j))
 
 -- It is accepted.
 read : (c : tie.After-enum-told) → let bs = bytes (measured (entire (c .before .before))) in read-of (widths-in bs) (query-in bs) .answer ≡ Done
@@ -75,7 +82,7 @@ filling : (c : tie.After-fill) → let bs = bytes (measured (entire (queried c))
 filling c =
     let r = queried c in let w = entire r in let bs = bytes (measured w) in
     c .fill .ensures
-    ∙ (λ j. collect-all (beginning (r .before .before .widths .ensures j)) (tabulate (record-at bs) (counts w j)))
+    ∙ (λ j. collect-all (beginning (heads w j .widths)) (tabulate (record-at bs) (counts w j)))
     ∙ fill-collects (widths-in bs) (records-in bs)
 
 -- ---- the needs
@@ -92,20 +99,17 @@ returns c =
     c .refused .ensures
     ∙ sym (input-short (bytes m) (sym (extent-whole (bytes m)) ∙ ap (λ e. e .whole) (sym (m .measure .ensures)) ∙ not-true (m .measure .result .whole) (c .before .if1 .taken)))
 
-widths-requires : tie.Need-widths-requires
-widths-requires c κs = whole-lengths (bytes (measured c)) (whole c) .1
-
 mul-from : tie.Need-mul-from
-mul-from c = omega (arith, reaches (c .before))
+mul-from c = omega (arith, reaches (apart c))
 
 add-from : tie.Need-add-from
-add-from c = omega (arith, reaches (c .before))
+add-from c = omega (arith, reaches (apart c))
 
 sub-read : tie.Need-sub-read
-sub-read c = reaches (c .before) .0
+sub-read c = reaches (apart c) .0
 
 part-read-start : tie.Need-part-read-start
-part-read-start c = reaches (c .before) .0
+part-read-start c = reaches (apart c) .0
 
 part-read-end : tie.Need-part-read-end
 part-read-end c = search needs
@@ -156,7 +160,6 @@ take-spec =
     measure-requires
     refused-requires
     returns
-    widths-requires
     mul-from
     add-from
     sub-read

@@ -2,6 +2,7 @@
 use Prim.Native.Nat.{ℕ}
 use mathlib.Core.Bool.{Bool, true, false}
 use mathlib.Core.List.{List, []}
+use lib.ListN.{replicate}
 use Rattle.calculus.specs.Generators.{columns}
 use Rattle.causes.specs.declared.Answer.{Answer}
 use Rattle.causes.specs.declared.Answer.the-variants.{Done, Refused}
@@ -12,23 +13,24 @@ use Rattle.query.specs.declared.Columns.{Columns}
 use Rattle.query.specs.Reading.{query-of, columns-of, formula}
 use Rattle.verdict.specs.declared.Verdict.{Verdict}
 use Rattle.answer.specs.declared.Found.{Found}
+use Rattle.packed.specs.declared.part.Head.{Head}
 use Rattle.packed.specs.declared.part.Extent.{Extent}
 use Rattle.packed.specs.declared.Assessment.{Assessment}
 use Rattle.packed.specs.declared.Input.{Input}
 use Rattle.packed.specs.declared.Listing.{Listing}
-use Rattle.packed.specs.Packed.{count-in, is-whole, store-in, query-read, input-checks, judged-of, beside, declined}
+use Rattle.packed.specs.Packed.{head-in, is-whole, store-in, query-read, input-checks, judged-of, beside, declined}
 
--- ---- how far an input reaches: whether it is whole, and then the number of its records
+-- ---- how far an input reaches: whether it is whole, and then its head
 
 abbrev pub no-extent : Extent
-no-extent = record { whole = false; count = 0 }
+no-extent = record { whole = false; head = record { widths = replicate 16 0; count = 0 } }
 
-abbrev pub extent-by : Bool → ℕ → Extent
-extent-by true n = record { whole = true; count = n }
-extent-by false n = no-extent
+abbrev pub extent-by : Bool → Head → Extent
+extent-by true h = record { whole = true; head = h }
+extent-by false h = no-extent
 
 abbrev pub extent-of : List ℕ → Extent
-extent-of bs = extent-by (is-whole bs) (count-in bs)
+extent-of bs = extent-by (is-whole bs) (head-in bs)
 
 -- ---- what an input holds; a refusal comes with nothing
 

@@ -1,11 +1,11 @@
 -- Laws of the packed input: what it comes to at each cause that the code meets in turn, and what an accepted input promises. What the list's reply tells is in
 -- Packed/Told.antt.
-use Prim.Native.Nat.{ℕ, _+_, _*_, _≤_, _<_, _^_}
+use Prim.Native.Nat.{ℕ, _≤_, _<_, _^_}
 use mathlib.Core.Path.{_≡_, refl, sym, ap, subst⁻¹, _∙_}
-use mathlib.Core.Bool.{Bool, true, false, not, _&&_}
+use mathlib.Core.Bool.{Bool, true, false, not}
 use mathlib.Core.List.{List, [], _∷_, _++_}
 use lib.ListN.{length, getD}
-use lib.Dec.{T, leb}
+use lib.Dec.{T}
 use Rattle.calculus.specs.Lists.{padded}
 use Rattle.calculus.specs.Order.{insert}
 use Rattle.calculus.specs.Reflects.Laws.{reflects, confirmed-by, reflects-and, reflects-leb, reflects-T, reflects-true}
@@ -17,11 +17,9 @@ use Rattle.causes.specs.Causes.{clear, met, Check, check, first-cause, when, wi
 use Rattle.causes.specs.Causes.Laws.{then-done, then-refused, first-done, later-done, first-passed}
 use Rattle.tables.specs.declared.Record.{Record}
 use Rattle.tables.specs.declared.Changed.{Changed}
-use Rattle.tables.specs.Records.{record-below, fits}
-use Rattle.tables.specs.Store.{capacity}
+use Rattle.tables.specs.Records.{record-below}
 use Rattle.tables.specs.Store.Laws.{reflects-layout}
-use Rattle.tables.specs.Change.{is-held}
-use Rattle.tables.specs.Fill.{unless-refused, fill-from, fill-reply}
+use Rattle.tables.specs.Fill.{unless-refused, fill-checks, fill-from, fill-reply}
 use Rattle.tables.specs.Fill.Laws.{fill-widths, fill-layout}
 use Rattle.query.specs.declared.Query.{Query}
 use Rattle.query.specs.declared.Columns.{Columns}
@@ -32,28 +30,29 @@ use Rattle.verdict.specs.Form.{form-of}
 use Rattle.verdict.specs.Verdict.{judged, refusal as verdict-refusal}
 use Rattle.answer.specs.Reply.{row-checks, Writing, reply-by}
 use Rattle.answer.specs.Code.Reply.{Answerable, evaluated-by}
+use Rattle.packed.specs.declared.part.Head.{Head}
 use Rattle.packed.specs.declared.Input.{Input}
-use Rattle.packed.specs.Packed.{widths-in, count-in, records-in, query-in, is-whole, record-checks, input-checks, store-in, query-read, judged-reply, judged-of, result-in, list-checks, declined, listing-reply, listing-in}
+use Rattle.packed.specs.Packed.{head-length, head-in, widths-in, count-in, start, records-in, query-in, is-whole, record-checks, input-checks, store-in, query-read, judged-reply, judged-of, result-in, list-checks, declined, listing-reply, listing-in}
 use Rattle.packed.specs.Code.Packed.{extent-by, extent-of, refusal, input-reply, input-of, listing-with}
 
 -- ---- the parts
 
--- A whole input has at most 8,192 bytes, and its widths, count and records.
-pub whole-lengths : (bs : List ℕ) → is-whole bs ≡ true → (length bs ≤ 8192) × (18 ≤ length bs) × (18 + 17 * count-in bs ≤ length bs)
+-- A whole input has at most 8,192 bytes, and its head and records.
+pub whole-lengths : (bs : List ℕ) → is-whole bs ≡ true → (length bs ≤ 8192) × (head-length ≤ length bs) × (start (count-in bs) ≤ length bs)
 whole-lengths bs w =
-    let h = confirmed-by w (reflects-and (reflects-and (reflects-leb (length bs) 8192) (reflects-leb 18 (length bs))) (reflects-leb (18 + 17 * count-in bs) (length bs))) in
+    let h = confirmed-by w (reflects-and (reflects-and (reflects-leb (length bs) 8192) (reflects-leb head-length (length bs))) (reflects-leb (start (count-in bs)) (length bs))) in
     (h .0 .0, h .0 .1, h .1)
 
--- How far it reaches says whether it is whole, and then counts its records.
-extent-by-whole : (b : Bool) (n : ℕ) → extent-by b n .whole ≡ b
-extent-by-whole true n = refl
-extent-by-whole false n = refl
+-- How far it reaches says whether it is whole, and then what its head holds.
+extent-by-whole : (b : Bool) (h : Head) → extent-by b h .whole ≡ b
+extent-by-whole true h = refl
+extent-by-whole false h = refl
 
 pub extent-whole : (bs : List ℕ) → extent-of bs .whole ≡ is-whole bs
-extent-whole bs = extent-by-whole (is-whole bs) (count-in bs)
+extent-whole bs = extent-by-whole (is-whole bs) (head-in bs)
 
-pub extent-count : (bs : List ℕ) → is-whole bs ≡ true → extent-of bs .count ≡ count-in bs
-extent-count bs w = ap (λ b. extent-by b (count-in bs) .count) w
+pub extent-head : (bs : List ℕ) → is-whole bs ≡ true → extent-of bs .head ≡ head-in bs
+extent-head bs w = ap (λ b. extent-by b (head-in bs) .head) w
 
 -- What goes on where checks refuse nothing answers their first cause, or its own.
 unless-cause : (cs ds : List Check) (c : Changed) → c .answer ≡ first-cause ds → unless-refused (first-cause cs) c .answer ≡ first-cause (cs ++ ds)
@@ -66,7 +65,7 @@ fill-from-answer : (ws : List ℕ) (ps rs : List Record) → fill-from ws ps rs 
 fill-from-answer ws ps [] = refl
 fill-from-answer ws ps (r ∷ rs) =
     let qs : List Record = insert record-below r ps in
-    unless-cause (check 13 (when (not (fits ws r))) ∷ check 15 (when (not (is-held r ps) && leb capacity (length ps))) ∷ []) (record-checks ws qs rs) (fill-from ws qs rs) (fill-from-answer ws qs rs)
+    unless-cause (fill-checks ws ps r) (record-checks ws qs rs) (fill-from ws qs rs) (fill-from-answer ws qs rs)
 
 -- Filling answers the first cause of the records in turn.
 pub fill-answer : (ws : List ℕ) (rs : List Record) → T (widths-fit ws) → fill-reply ws rs .answer ≡ first-cause (record-checks ws [] rs)
@@ -80,8 +79,8 @@ fill-answer ws rs f =
 abbrev query-checks : List ℕ → List Check
 query-checks bs = read-checks (widths-in bs) (query-in bs)
 
-abbrev fill-checks : List ℕ → List Check
-fill-checks bs = record-checks (widths-in bs) [] (records-in bs)
+abbrev filling-checks : List ℕ → List Check
+filling-checks bs = record-checks (widths-in bs) [] (records-in bs)
 
 module _ (bs : List ℕ) where
   -- The input by the first cause met.
@@ -89,22 +88,22 @@ module _ (bs : List ℕ) where
   input-by a e = ap (λ b. input-reply b bs) e
 
   -- Cause 2 is met or not, and the rest follows.
-  whole-decides : (b : Bool) → is-whole bs ≡ b → first-cause (input-checks bs) ≡ first-cause (check 2 (when (not b)) ∷ (query-checks bs ++ fill-checks bs))
-  whole-decides b w = ap (λ c. first-cause (check 2 (when (not c)) ∷ (query-checks bs ++ fill-checks bs))) w
+  whole-decides : (b : Bool) → is-whole bs ≡ b → first-cause (input-checks bs) ≡ first-cause (check 2 (when (not b)) ∷ (query-checks bs ++ filling-checks bs))
+  whole-decides b w = ap (λ c. first-cause (check 2 (when (not c)) ∷ (query-checks bs ++ filling-checks bs))) w
 
   pub input-short : is-whole bs ≡ false → input-of bs ≡ refusal 2 0
   input-short w = input-by (Refused 2 0) (whole-decides false w)
 
   module _ (w : is-whole bs ≡ true) where
     pub input-unread : (n p : ℕ) → read-of (widths-in bs) (query-in bs) .answer ≡ Refused n p → input-of bs ≡ refusal n p
-    input-unread n p e = input-by (Refused n p) (whole-decides true w ∙ then-refused (query-checks bs) (fill-checks bs) n p (read-cause (widths-in bs) (query-in bs) (Refused n p) e))
+    input-unread n p e = input-by (Refused n p) (whole-decides true w ∙ then-refused (query-checks bs) (filling-checks bs) n p (read-cause (widths-in bs) (query-in bs) (Refused n p) e))
 
     module _ (r : read-of (widths-in bs) (query-in bs) .answer ≡ Done) where
       -- The records are left.
       records-decide : first-cause (input-checks bs) ≡ fill-reply (widths-in bs) (records-in bs) .answer
       records-decide =
           whole-decides true w
-          ∙ then-done (query-checks bs) (fill-checks bs) (read-cause (widths-in bs) (query-in bs) Done r)
+          ∙ then-done (query-checks bs) (filling-checks bs) (read-cause (widths-in bs) (query-in bs) Done r)
           ∙ sym (fill-answer (widths-in bs) (records-in bs) (read-widths (widths-in bs) (query-in bs) r))
 
       pub input-unfilled : (n p : ℕ) → fill-reply (widths-in bs) (records-in bs) .answer ≡ Refused n p → input-of bs ≡ refusal n p
@@ -145,17 +144,17 @@ module _ (bs : List ℕ) where
 
   -- No cause is met: the query is read, with few columns, and the records fill a store.
   module _ (c : first-cause (input-checks bs) ≡ Done) where
-    later-clear : first-cause (query-checks bs ++ fill-checks bs) ≡ Done
-    later-clear = first-passed 2 (is-whole bs) (query-checks bs ++ fill-checks bs) c .1
+    later-clear : first-cause (query-checks bs ++ filling-checks bs) ≡ Done
+    later-clear = first-passed 2 (is-whole bs) (query-checks bs ++ filling-checks bs) c .1
 
     pub query-accepted : read-of (widths-in bs) (query-in bs) .answer ≡ Done
-    query-accepted = ap (λ a. read-reply a (constants-of (query-in bs)) (nodes-of (query-in bs)) .answer) (first-done (query-checks bs) (fill-checks bs) later-clear)
+    query-accepted = ap (λ a. read-reply a (constants-of (query-in bs)) (nodes-of (query-in bs)) .answer) (first-done (query-checks bs) (filling-checks bs) later-clear)
 
     pub input-few : length (columns (formula (query-read bs))) ≤ 4
     input-few = read-few (widths-in bs) (query-in bs) query-accepted
 
     pub records-filled : fill-reply (widths-in bs) (records-in bs) .answer ≡ Done
-    records-filled = fill-answer (widths-in bs) (records-in bs) (read-widths (widths-in bs) (query-in bs) query-accepted) ∙ later-done (query-checks bs) (fill-checks bs) later-clear
+    records-filled = fill-answer (widths-in bs) (records-in bs) (read-widths (widths-in bs) (query-in bs) query-accepted) ∙ later-done (query-checks bs) (filling-checks bs) later-clear
 
   pub judged-answer : judged-of bs .answer ≡ first-cause (input-checks bs)
   judged-answer = judged-reply-answer (first-cause (input-checks bs)) (query-read bs)

@@ -5,7 +5,6 @@ use mathlib.Core.Path.{_≡_, subst⁻¹}
 use mathlib.Core.Bool.{not, _&&_}
 use mathlib.Core.List.{List, [], _∷_, _++_}
 use lib.ListN.{length}
-use lib.Dec.{leb}
 use Rattle.calculus.specs.Order.{insert}
 use Rattle.calculus.specs.Generators.{columns}
 use Rattle.causes.specs.declared.Answer.{Answer}
@@ -14,7 +13,7 @@ use Rattle.causes.specs.Causes.{check, first-cause, when, place}
 use Rattle.causes.specs.Causes.Laws.{place-then, place-when, refused-place}
 use Rattle.tables.specs.declared.Record.{Record}
 use Rattle.tables.specs.Records.{record-below, fits}
-use Rattle.tables.specs.Store.{capacity}
+use Rattle.tables.specs.Store.{has-room}
 use Rattle.tables.specs.Change.{is-held}
 use Rattle.query.specs.Reading.{max-nodes, read-checks, formula}
 use Rattle.query.specs.Reading.Laws.{read-place}
@@ -26,7 +25,7 @@ record-place : (ws : List ℕ) (ps rs : List Record) → place (first-cause (rec
 record-place ws ps [] = omega arith
 record-place ws ps (r ∷ rs) =
     let later = record-checks ws (insert record-below r ps) rs in
-    let full = not (is-held r ps) && leb capacity (length ps) in
+    let full = not (is-held r ps) && not (has-room r ps) in
     place-when 13 (not (fits ws r)) (check 15 (when full) ∷ later) (place-when 15 full later (record-place ws (insert record-below r ps) rs))
 
 input-place : (bs : List ℕ) → place (first-cause (input-checks bs)) < max-nodes

@@ -1,7 +1,7 @@
 -- What the list of an input promises, whatever the input's bytes: the store holds exactly the records of the input; what is answered is right over all whole
 -- numbers; each value listed is in a record of a relation that the query names or is a constant of it, so a 32-bit number; and where the query is judged
 -- safe-range it is never endless.
-use Prim.Native.Nat.{ℕ, zero, suc, _+_, _*_, _<_, _^_}
+use Prim.Native.Nat.{ℕ, zero, suc, _+_, _<_, _^_}
 use native.Mathlib.Omega.{arith}
 use mathlib.Core.Path.{_≡_, refl, subst, subst⁻¹}
 use mathlib.Core.Logic.{_↔_, ⊎-elim}
@@ -28,7 +28,7 @@ use Rattle.query.specs.declared.Query.{Query}
 use Rattle.query.specs.Reading.{constants-of, pool, formula}
 use Rattle.query.specs.Accepted.Laws.{read-pool, word-fits, constant-fits}
 use Rattle.answer.specs.Reply.{EndlessOver, RightOver, KnownTo}
-use Rattle.packed.specs.Packed.{widths-in, count-in, record-at, records-in, query-in, store-in, query-read, result-in, input-checks, Listed}
+use Rattle.packed.specs.Packed.{widths-in, count-in, start, record-at, records-in, query-in, store-in, query-read, result-in, input-checks, Listed}
 use Rattle.packed.specs.Packed.Laws.{query-accepted, records-filled}
 
 -- The values of a fact.
@@ -63,10 +63,10 @@ module _ (bs : List ℕ) where
   -- Each value listed is a 32-bit number, the input being bytes: its digits read back as it.
   module _ (small : (i : ℕ) → getD bs i 0 < 256) (done : first-cause (input-checks bs) ≡ Done) where
     values-small : (i v : ℕ) → In v (values-of (record-at bs i)) → v < 2 ^ 32
-    values-small i v (here e) = subst⁻¹ (λ u. u < 2 ^ 32) e (word-fits bs small (18 + 17 * i + 1))
-    values-small i v (there (here e)) = subst⁻¹ (λ u. u < 2 ^ 32) e (word-fits bs small (18 + 17 * i + 5))
-    values-small i v (there (there (here e))) = subst⁻¹ (λ u. u < 2 ^ 32) e (word-fits bs small (18 + 17 * i + 9))
-    values-small i v (there (there (there (here e)))) = subst⁻¹ (λ u. u < 2 ^ 32) e (word-fits bs small (18 + 17 * i + 13))
+    values-small i v (here e) = subst⁻¹ (λ u. u < 2 ^ 32) e (word-fits bs small (start i + 1))
+    values-small i v (there (here e)) = subst⁻¹ (λ u. u < 2 ^ 32) e (word-fits bs small (start i + 5))
+    values-small i v (there (there (here e))) = subst⁻¹ (λ u. u < 2 ^ 32) e (word-fits bs small (start i + 9))
+    values-small i v (there (there (there (here e)))) = subst⁻¹ (λ u. u < 2 ^ 32) e (word-fits bs small (start i + 13))
 
     fact-small : (f : Fact) → In f (facts (store-in bs)) → (v : ℕ) → In v (values-in f) → v < 2 ^ 32
     fact-small f i v j =
@@ -76,7 +76,7 @@ module _ (bs : List ℕ) where
     constant-small : (p : ℕ) → constant (pool (query-read bs)) p < 2 ^ 32
     constant-small p =
         subst⁻¹ (λ cs. getD cs p 0 < 2 ^ 32) (read-pool (widths-in bs) (query-in bs) (query-accepted bs done))
-        (within-pool (constants-of (query-in bs)) (constant-fits (query-in bs) (λ i. subst⁻¹ (λ b. b < 256) (getD-drop (18 + 17 * count-in bs) bs i 0) (small (18 + 17 * count-in bs + i)))) p)
+        (within-pool (constants-of (query-in bs)) (constant-fits (query-in bs) (λ i. subst⁻¹ (λ b. b < 256) (getD-drop (start (count-in bs)) bs i 0) (small (start (count-in bs) + i)))) p)
 
     pub listed-small : (rows : List Row) → result-in bs ≡ listed rows → (w : Row) → In w rows → (v : ℕ) → In v w → v < 2 ^ 32
     listed-small rows e w i v j =

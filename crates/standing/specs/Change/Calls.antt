@@ -1,8 +1,9 @@
--- Laws of a put and a removal, for both kinds at once: the reply where the store, the query or the list is refused, where the record is, and where none is.
+-- Laws of a put and a removal, both at once: the reply where the store, the query or the list is refused, where the record is, and where none is.
 -- The causes stand in the order of their numbers, so the first part that meets one decides.
 use Prim.Native.Nat.{ℕ, _+_, _≤_}
 use native.Mathlib.Omega.{arith}
 use mathlib.Core.Path.{_≡_, refl, sym, ap, subst, subst⁻¹, _∙_}
+use mathlib.Core.Bool.{false, true≢false}
 use mathlib.Core.List.{List, [], _∷_, _++_}
 use lib.ListN.{length}
 use lib.Dec.{T}
@@ -13,9 +14,8 @@ use Rattle.causes.specs.declared.Answer.{Answer}
 use Rattle.causes.specs.declared.Answer.the-variants.{Done, Refused}
 use Rattle.causes.specs.Causes.{Check, first-cause, is-done, number, numbered}
 use Rattle.causes.specs.Causes.Laws.{then-done, then-refused, first-done, later-done, first-passed, numbered-done}
-use Rattle.tables.specs.declared.Record.{Record}
 use Rattle.tables.specs.declared.Store.{Store}
-use Rattle.tables.specs.Store.{held}
+use Rattle.tables.specs.Store.{held, judgement}
 use Rattle.query.specs.Reading.{formula}
 use Rattle.answer.specs.Reply.{result-of, query-read}
 use Rattle.standing.specs.declared.View.{View}
@@ -23,7 +23,8 @@ use Rattle.standing.specs.declared.Change.{Change}
 use Rattle.standing.specs.View.{max-rows, rows-in, kept, suits}
 use Rattle.standing.specs.View.Difference.{only-in-fewer}
 use Rattle.standing.specs.View.Layout.{suited}
-use Rattle.standing.specs.Checks.{Kind, put, removal, view-checks, record-checks, is-over}
+use Rattle.standing.specs.Checks.{Action, put, removal, view-checks, record-checks, is-over}
+use Rattle.standing.specs.Change.Stores.{after-judged}
 use Rattle.standing.specs.Change.Turn.{report-clear}
 use Rattle.standing.specs.Change.{joining, leaving, begin-checks, refusal, turn-checks, turn-reply, store-after, ready-checks, change-of}
 use Rattle.standing.specs.Code.Change.{maintained}
@@ -31,6 +32,10 @@ use Rattle.standing.specs.Code.Change.{maintained}
 -- At most `max-rows` rows joined, and at most as many left.
 abbrev pub FewTold : Change × (List ℕ × List ℕ) → Type 0
 FewTold x = (x .0 .joined ≤ max-rows) × (x .0 .left ≤ max-rows)
+
+-- The store after a call is in the layout and has the widths that it had; a refused call leaves it.
+abbrev pub StoreKept : Store → Change × (List ℕ × List ℕ) → Type 0
+StoreKept s x = (judgement (x .0 .store) ≡ Done) × (x .0 .store .widths ≡ s .widths) × (is-done (x .0 .answer) ≡ false → x .0 .store ≡ s)
 
 -- The counts grow by the numbers told; a refusal tells none, and leaves them.
 abbrev pub Grown : View → Change × (List ℕ × List ℕ) → Type 0
@@ -51,58 +56,70 @@ refusal-told Done s t v cols found first second n p e = absurd (subst (λ a. T (
 refusal-told (Refused m o) s t v cols found first second n p e = ap (λ a. turn-reply a s t v cols found first second) e
 
 -- No check of a put or removal has the number 0.
-all-numbered : (kind : Kind) (s : Store) (v : View) (bs : List ℕ) (r : Record) (cols : List ℕ) (found : Result) (a b : ℕ) → T (numbered (ready-checks s v bs ++ (record-checks kind (s .widths) (held s) r ++ turn-checks v cols found a b)))
-all-numbered put s v bs r cols found a b = tt
-all-numbered removal s v bs r cols found a b = tt
+all-numbered : (action : Action) (s : Store) (v : View) (bs : List ℕ) (cols : List ℕ) (found : Result) (a b : ℕ) → T (numbered (ready-checks s v bs ++ (record-checks action (s .widths) (held s) ++ turn-checks v cols found a b)))
+all-numbered (put r) s v bs cols found a b = tt
+all-numbered (removal r) s v bs cols found a b = tt
 
-module _ (kind : Kind) (s : Store) (v : View) (bs : List ℕ) (r : Record) (first second : List ℕ) where
+module _ (action : Action) (s : Store) (v : View) (bs : List ℕ) (first second : List ℕ) where
   -- The causes 13 to 16, and 17 to 19.
   abbrev record-causes : List Check
-  record-causes = record-checks kind (s .widths) (held s) r
+  record-causes = record-checks action (s .widths) (held s)
 
   abbrev turn-causes : List Check
-  turn-causes = turn-checks v (columns (formula (query-read s bs))) (result-of (store-after kind s r) (query-read s bs)) (length first) (length second)
+  turn-causes = turn-checks v (columns (formula (query-read s bs))) (result-of (store-after action s) (query-read s bs)) (length first) (length second)
 
   -- The reply by the first cause met.
-  change-by : (a : Answer) → first-cause (ready-checks s v bs ++ (record-causes ++ turn-causes)) ≡ a → change-of kind s v bs r first second ≡ turn-reply a s (store-after kind s r) v (columns (formula (query-read s bs))) (result-of (store-after kind s r) (query-read s bs)) first second
-  change-by a e = ap (λ c. turn-reply c s (store-after kind s r) v (columns (formula (query-read s bs))) (result-of (store-after kind s r) (query-read s bs)) first second) e
+  change-by : (a : Answer) → first-cause (ready-checks s v bs ++ (record-causes ++ turn-causes)) ≡ a → change-of action s v bs first second ≡ turn-reply a s (store-after action s) v (columns (formula (query-read s bs))) (result-of (store-after action s) (query-read s bs)) first second
+  change-by a e = ap (λ c. turn-reply c s (store-after action s) v (columns (formula (query-read s bs))) (result-of (store-after action s) (query-read s bs)) first second) e
 
-  pub change-leaves : (n p : ℕ) → change-of kind s v bs r first second .0 .answer ≡ Refused n p → change-of kind s v bs r first second ≡ (refusal n p s v, (first, second))
+  pub change-leaves : (n p : ℕ) → change-of action s v bs first second .0 .answer ≡ Refused n p → change-of action s v bs first second ≡ (refusal n p s v, (first, second))
   change-leaves =
-      refusal-told (first-cause (ready-checks s v bs ++ (record-causes ++ turn-causes))) s (store-after kind s r) v (columns (formula (query-read s bs))) (result-of (store-after kind s r) (query-read s bs)) first second
+      refusal-told (first-cause (ready-checks s v bs ++ (record-causes ++ turn-causes))) s (store-after action s) v (columns (formula (query-read s bs))) (result-of (store-after action s) (query-read s bs)) first second
 
-  pub change-grown : Grown v (change-of kind s v bs r first second)
+  pub change-grown : Grown v (change-of action s v bs first second)
   change-grown =
-      reply-grown (first-cause (ready-checks s v bs ++ (record-causes ++ turn-causes))) s (store-after kind s r) v (columns (formula (query-read s bs))) (result-of (store-after kind s r) (query-read s bs)) first second
+      reply-grown (first-cause (ready-checks s v bs ++ (record-causes ++ turn-causes))) s (store-after action s) v (columns (formula (query-read s bs))) (result-of (store-after action s) (query-read s bs)) first second
+
+  -- Whatever the list that it is given.
+  pub change-store : judgement s ≡ Done → StoreKept s (change-of action s v bs first second)
+  change-store judged = go (first-cause (ready-checks s v bs ++ (record-causes ++ turn-causes))) refl
+    where
+      go : (a : Answer) → first-cause (ready-checks s v bs ++ (record-causes ++ turn-causes)) ≡ a → StoreKept s (turn-reply a s (store-after action s) v (columns (formula (query-read s bs))) (result-of (store-after action s) (query-read s bs)) first second)
+      go Done e = (
+        after-judged s judged action (first-done record-causes turn-causes (later-done (ready-checks s v bs) (record-causes ++ turn-causes) e)),
+        refl,
+        λ f. absurd (true≢false f),
+      )
+      go (Refused n p) e = (judged, refl, λ f. refl)
 
   -- The number 0 means that the call was worked on.
-  pub change-worked : number (change-of kind s v bs r first second .0 .answer) ≡ 0 → change-of kind s v bs r first second .0 .answer ≡ Done
+  pub change-worked : number (change-of action s v bs first second .0 .answer) ≡ 0 → change-of action s v bs first second .0 .answer ≡ Done
   change-worked e =
       let cols : List ℕ = columns (formula (query-read s bs)) in
-      let found : Result = result-of (store-after kind s r) (query-read s bs) in
-      let told = answer-told (first-cause (ready-checks s v bs ++ (record-causes ++ turn-causes))) s (store-after kind s r) v cols found first second in
-      told ∙ numbered-done (ready-checks s v bs ++ (record-causes ++ turn-causes)) (all-numbered kind s v bs r cols found (length first) (length second)) (sym (ap number told) ∙ e)
+      let found : Result = result-of (store-after action s) (query-read s bs) in
+      let told = answer-told (first-cause (ready-checks s v bs ++ (record-causes ++ turn-causes))) s (store-after action s) v cols found first second in
+      told ∙ numbered-done (ready-checks s v bs ++ (record-causes ++ turn-causes)) (all-numbered action s v bs cols found (length first) (length second)) (sym (ap number told) ∙ e)
 
   -- One of the causes 1 to 10 or 12 is met.
-  pub change-unready : (n p : ℕ) → first-cause (ready-checks s v bs) ≡ Refused n p → change-of kind s v bs r first second ≡ (refusal n p s v, (first, second))
+  pub change-unready : (n p : ℕ) → first-cause (ready-checks s v bs) ≡ Refused n p → change-of action s v bs first second ≡ (refusal n p s v, (first, second))
   change-unready n p e = change-by (Refused n p) (then-refused (ready-checks s v bs) (record-causes ++ turn-causes) n p e)
 
   module _ (ready : first-cause (ready-checks s v bs) ≡ Done) where
     -- One of the causes 13 to 16 is met.
-    pub change-refused : (n p : ℕ) → first-cause (record-checks kind (s .widths) (held s) r) ≡ Refused n p → change-of kind s v bs r first second ≡ (refusal n p s v, (first, second))
+    pub change-refused : (n p : ℕ) → first-cause (record-checks action (s .widths) (held s)) ≡ Refused n p → change-of action s v bs first second ≡ (refusal n p s v, (first, second))
     change-refused n p e = change-by (Refused n p) (then-done (ready-checks s v bs) (record-causes ++ turn-causes) ready ∙ then-refused record-causes turn-causes n p e)
 
     -- None of them is: the causes 17 to 19 are left.
-    pub change-maintained : first-cause (record-checks kind (s .widths) (held s) r) ≡ Done → change-of kind s v bs r first second ≡ maintained s (store-after kind s r) v (query-read s bs) first second
+    pub change-maintained : first-cause (record-checks action (s .widths) (held s)) ≡ Done → change-of action s v bs first second ≡ maintained s (store-after action s) v (query-read s bs) first second
     change-maintained e = change-by (first-cause turn-causes) (then-done (ready-checks s v bs) (record-causes ++ turn-causes) ready ∙ then-done record-causes turn-causes e)
 
   -- ---- how many rows are told
 
   -- Where no cause is met, the rows held before and those found anew are at most `max-rows`; a list in memory has four column places.
-  few-rows : length (v .columns .variables) ≡ 4 → first-cause (ready-checks s v bs ++ (record-causes ++ turn-causes)) ≡ Done → (length (rows-in v) ≤ max-rows) × (length (kept (result-of (store-after kind s r) (query-read s bs))) ≤ max-rows)
+  few-rows : length (v .columns .variables) ≡ 4 → first-cause (ready-checks s v bs ++ (record-causes ++ turn-causes)) ≡ Done → (length (rows-in v) ≤ max-rows) × (length (kept (result-of (store-after action s) (query-read s bs))) ≤ max-rows)
   few-rows places e =
       let cols : List ℕ = columns (formula (query-read s bs)) in
-      let found : Result = result-of (store-after kind s r) (query-read s bs) in
+      let found : Result = result-of (store-after action s) (query-read s bs) in
       let j : ℕ = length (joining v found) in
       let m : ℕ = length (leaving v found) in
       let ready = first-done (ready-checks s v bs) (record-causes ++ turn-causes) e in
@@ -113,13 +130,13 @@ module _ (kind : Kind) (s : Store) (v : View) (bs : List ℕ) (r : Record) (firs
       )
 
   -- So at most `max-rows` rows join, and at most as many leave; a refusal tells none.
-  pub few-told : length (v .columns .variables) ≡ 4 → FewTold (change-of kind s v bs r first second)
+  pub few-told : length (v .columns .variables) ≡ 4 → FewTold (change-of action s v bs first second)
   few-told places = go (first-cause (ready-checks s v bs ++ (record-causes ++ turn-causes))) refl
     where
-      go : (a : Answer) → first-cause (ready-checks s v bs ++ (record-causes ++ turn-causes)) ≡ a → FewTold (turn-reply a s (store-after kind s r) v (columns (formula (query-read s bs))) (result-of (store-after kind s r) (query-read s bs)) first second)
+      go : (a : Answer) → first-cause (ready-checks s v bs ++ (record-causes ++ turn-causes)) ≡ a → FewTold (turn-reply a s (store-after action s) v (columns (formula (query-read s bs))) (result-of (store-after action s) (query-read s bs)) first second)
       go Done e =
           let f = few-rows places e in
-          let found : Result = result-of (store-after kind s r) (query-read s bs) in
+          let found : Result = result-of (store-after action s) (query-read s bs) in
           let j = only-in-fewer (kept found) (rows-in v) in
           let l = only-in-fewer (rows-in v) (kept found) in
           (omega (arith, f .1, j), omega (arith, f .0, l))

@@ -1,22 +1,20 @@
 -- Laws of the store in a change: the causes 13 to 16 as `tables` judges them, and the store after a change that meets none of them. They come from the laws of
 -- its own calls, which differ in judging the store first.
-use mathlib.Core.Path.{_≡_, sym, ap, subst, _∙_}
+use mathlib.Core.Path.{_≡_, ap, subst, _∙_}
 use mathlib.Core.Bool.{not}
 use mathlib.Core.List.{List, [], _∷_, _++_}
-use lib.Dec.{T, leb}
-use Rattle.calculus.specs.Reflects.Laws.{reflected, reflects-T, reflects-true}
+use lib.Dec.{T}
+use Rattle.calculus.specs.Reflects.Laws.{reflects-T, reflects-true}
 use Rattle.causes.specs.declared.Answer.the-variants.{Done}
 use Rattle.causes.specs.Causes.{Check, check, first-cause, when, widths-fit}
 use Rattle.causes.specs.Causes.Laws.{then-done}
-use Rattle.tables.specs.declared.Record.{Record}
 use Rattle.tables.specs.declared.Store.{Store}
 use Rattle.tables.specs.declared.Changed.{Changed}
-use Rattle.tables.specs.Records.{fits}
-use Rattle.tables.specs.Store.{capacity, held, store-checks, judgement, Layout}
-use Rattle.tables.specs.Store.Laws.{reflects-layout, length-held, judged-layout}
-use Rattle.tables.specs.Change.{is-held, reply, put-reply, removal-reply}
-use Rattle.tables.specs.Change.Laws.{put-checks, insertion-put, deletion-removal, put-layout, put-held, removal-layout, removal-held}
-use Rattle.standing.specs.Checks.{Kind, put, removal, record-checks, records-after}
+use Rattle.tables.specs.Store.{held, store-checks, judgement, Layout}
+use Rattle.tables.specs.Store.Laws.{reflects-layout, judged-layout}
+use Rattle.tables.specs.Change.{reply, put-reply, removal-reply}
+use Rattle.tables.specs.Change.Laws.{insertion-put, deletion-removal, put-layout, put-held, removal-layout, removal-held}
+use Rattle.standing.specs.Checks.{Action, put, removal, record-checks, records-after}
 use Rattle.standing.specs.Change.{store-after}
 use Rattle.standing.specs.Code.Change.{altered}
 
@@ -28,45 +26,41 @@ well-judged s w l =
     λ i. first-cause (check 1 (when (not (a i))) ∷ check 2 (when (not (b i))) ∷ [])
 
 -- The reply of the call of `tables` that makes the change, and what it leaves.
-abbrev tables-reply : Kind → Store → Record → Changed
-tables-reply put s r = put-reply s r
-tables-reply removal s r = removal-reply s r
+abbrev tables-reply : Action → Store → Changed
+tables-reply (put r) s = put-reply s r
+tables-reply (removal r) s = removal-reply s r
 
-tables-layout : (kind : Kind) (s : Store) (r : Record) → tables-reply kind s r .answer ≡ Done → T (widths-fit (tables-reply kind s r .store .widths)) × Layout (tables-reply kind s r .store)
-tables-layout put s r done = put-layout s r done
-tables-layout removal s r done = removal-layout s r done
+tables-layout : (action : Action) (s : Store) → tables-reply action s .answer ≡ Done → T (widths-fit (tables-reply action s .store .widths)) × Layout (tables-reply action s .store)
+tables-layout (put r) s done = put-layout s r done
+tables-layout (removal r) s done = removal-layout s r done
 
-tables-held : (kind : Kind) (s : Store) (r : Record) → tables-reply kind s r .answer ≡ Done → held (tables-reply kind s r .store) ≡ records-after kind r (held s)
-tables-held put s r done = put-held s r done
-tables-held removal s r done = removal-held s r done
+tables-held : (action : Action) (s : Store) → tables-reply action s .answer ≡ Done → held (tables-reply action s .store) ≡ records-after action (held s)
+tables-held (put r) s done = put-held s r done
+tables-held (removal r) s done = removal-held s r done
 
-module _ (s : Store) (r : Record) (judged : judgement s ≡ Done) where
+module _ (s : Store) (judged : judgement s ≡ Done) where
   -- The checks of a store in the layout leave the answer to the later ones.
   past-judgement : (cs : List Check) (t : Store) → reply (first-cause (store-checks s ++ cs)) s t ≡ reply (first-cause cs) s t
   past-judgement cs t = ap (λ a. reply a s t) (then-done (store-checks s) cs judged)
 
-  tables-replies : (kind : Kind) → tables-reply kind s r ≡ reply (first-cause (record-checks kind (s .widths) (held s) r)) s (store-after kind s r)
-  tables-replies put =
-      past-judgement (put-checks s r (is-held r (held s))) (store-after put s r)
-      ∙ ap
-      (λ n. reply (first-cause (check 13 (when (not (fits (s .widths) r))) ∷ check 14 (when (is-held r (held s))) ∷ check 15 (when (leb capacity n)) ∷ [])) s (store-after put s r))
-      (sym (length-held s (reflected (reflects-layout s) (judged-layout s judged .1) .count-fits)))
-  tables-replies removal = past-judgement (record-checks removal (s .widths) (held s) r) (store-after removal s r)
+  tables-replies : (action : Action) → tables-reply action s ≡ reply (first-cause (record-checks action (s .widths) (held s))) s (store-after action s)
+  tables-replies (put r) = past-judgement (record-checks (put r) (s .widths) (held s)) (store-after (put r) s)
+  tables-replies (removal r) = past-judgement (record-checks (removal r) (s .widths) (held s)) (store-after (removal r) s)
 
-  -- What the code asks of `tables` for a kind comes to the same.
-  pub altered-is : (kind : Kind) → altered kind s r ≡ reply (first-cause (record-checks kind (s .widths) (held s) r)) s (store-after kind s r)
-  altered-is put = let l = judged-layout s judged in insertion-put s r (l .0) (l .1) ∙ tables-replies put
-  altered-is removal = let l = judged-layout s judged in deletion-removal s r (l .0) (l .1) ∙ tables-replies removal
+  -- What the code asks of `tables` for an action comes to the same.
+  pub altered-is : (action : Action) → altered action s ≡ reply (first-cause (record-checks action (s .widths) (held s))) s (store-after action s)
+  altered-is (put r) = let l = judged-layout s judged in insertion-put s r (l .0) (l .1) ∙ tables-replies (put r)
+  altered-is (removal r) = let l = judged-layout s judged in deletion-removal s r (l .0) (l .1) ∙ tables-replies (removal r)
 
   -- The store after a change.
-  module _ (kind : Kind) (done : first-cause (record-checks kind (s .widths) (held s) r) ≡ Done) where
-    tables-done : tables-reply kind s r ≡ reply Done s (store-after kind s r)
-    tables-done = tables-replies kind ∙ ap (λ a. reply a s (store-after kind s r)) done
+  module _ (action : Action) (done : first-cause (record-checks action (s .widths) (held s)) ≡ Done) where
+    tables-done : tables-reply action s ≡ reply Done s (store-after action s)
+    tables-done = tables-replies action ∙ ap (λ a. reply a s (store-after action s)) done
 
-    pub after-judged : judgement (store-after kind s r) ≡ Done
+    pub after-judged : judgement (store-after action s) ≡ Done
     after-judged =
-        let l = subst (λ c. T (widths-fit (c .store .widths)) × Layout (c .store)) tables-done (tables-layout kind s r (ap (λ c. c .answer) tables-done)) in
-        well-judged (store-after kind s r) (l .0) (l .1)
+        let l = subst (λ c. T (widths-fit (c .store .widths)) × Layout (c .store)) tables-done (tables-layout action s (ap (λ c. c .answer) tables-done)) in
+        well-judged (store-after action s) (l .0) (l .1)
 
-    pub after-held : held (store-after kind s r) ≡ records-after kind r (held s)
-    after-held = subst (λ c. held (c .store) ≡ records-after kind r (held s)) tables-done (tables-held kind s r (ap (λ c. c .answer) tables-done))
+    pub after-held : held (store-after action s) ≡ records-after action (held s)
+    after-held = subst (λ c. held (c .store) ≡ records-after action (held s)) tables-done (tables-held action s (ap (λ c. c .answer) tables-done))

@@ -7,7 +7,6 @@ use lib.Dec.{T}
 use Rattle.calculus.specs.Generators.{columns}
 use Rattle.calculus.specs.Rows.{Result}
 use Rattle.causes.specs.Causes.{first-cause}
-use Rattle.tables.specs.declared.Record.{Record}
 use Rattle.tables.specs.declared.Store.{Store}
 use Rattle.tables.specs.declared.Changed.{Changed}
 use Rattle.tables.specs.Code.Change.{insertion, deletion}
@@ -21,7 +20,7 @@ use Rattle.standing.specs.declared.Told.{Told}
 use Rattle.standing.specs.declared.Change.{Change}
 use Rattle.standing.specs.View.{stored, kept, mark, suits}
 use Rattle.standing.specs.Code.View.{rows-with}
-use Rattle.standing.specs.Checks.{Kind, put, removal, is-over}
+use Rattle.standing.specs.Checks.{Action, put, removal, is-over}
 use Rattle.standing.specs.Change.{begin-checks, ready-checks, turn-checks, turn-reply}
 
 -- Rows found anew: whether they are over `max-rows`, and else the mark and the rows.
@@ -54,10 +53,10 @@ readied s v bs = read-reply (first-cause (ready-checks s v bs)) (constants-of bs
 abbrev pub Suits : View → Query → Type 0
 Suits v q = T (suits v (columns (formula q)))
 
--- What the call of `tables` for a kind ensures.
-abbrev pub altered : Kind → Store → Record → Changed
-altered put s r = insertion s r
-altered removal s r = deletion s r
+-- What the call of `tables` for an action ensures.
+abbrev pub altered : Action → Store → Changed
+altered (put r) s = insertion s r
+altered (removal r) s = deletion s r
 
 -- The reply to a change that came to the store t.
 abbrev pub maintained : Store → Store → View → Query → List ℕ → List ℕ → Change × (List ℕ × List ℕ)

@@ -1,15 +1,15 @@
--- There is exactly one ledger: one at every opening, and after it one for every list of calls, with one list of reports. And its counts add up.
+-- There is exactly one ledger: one account at every opening, and one report and one ledger after every call of a list that is open. And its counts add up.
 -- What is found is what the executable answers say, and what is judged is what the engine's checks say (Ledger/Ties.antt): where records and rows ascend, the
--- ledger is a function of the opening and the calls.
+-- report of a call and the ledger after it are a function of the ledger before it.
 use Prim.Native.Nat.{ℕ, _+_, _<_}
 use native.Mathlib.Omega.{arith}
 use mathlib.Core.Path.{_≡_, refl, sym, ap, subst, subst⁻¹, subst₂, _∙_}
 use mathlib.Core.Logic.{Iff·trans, Iff·symm}
 use mathlib.Core.Bool.{Bool, true, false}
 use mathlib.Core.List.{List, [], _∷_, _++_, map}
+use mathlib.Core.Option.{some}
 use lib.ListN.{length}
 use lib.Dec.{T}
-use Rattle.calculus.specs.Reflects.Laws.{reflected}
 use Rattle.calculus.specs.Order.{Ascending, nothing}
 use Rattle.calculus.specs.Order.Laws.{ascending-unique}
 use Rattle.calculus.specs.SafeRange.Result.{fv-columns}
@@ -26,51 +26,27 @@ use Rattle.tables.specs.declared.Record.{Record}
 use Rattle.tables.specs.declared.Store.{Store}
 use Rattle.tables.specs.Records.{record-below, fact-of}
 use Rattle.tables.specs.Records.Laws.{record-order}
-use Rattle.tables.specs.Store.{held, judgement}
-use Rattle.tables.specs.Store.Laws.{reflects-layout, judged-layout}
 use Rattle.query.specs.declared.Query.{Query}
-use Rattle.query.specs.Reading.{pool, formula}
+use Rattle.query.specs.Reading.{pool, formula, read-of}
+use Rattle.standing.specs.Families.{with-list, Every}
+use Rattle.standing.specs.Families.Laws.{one-list, every-none, every-with}
 use Rattle.standing.specs.View.{kept, mark}
-use Rattle.standing.specs.Checks.{Kind, put, removal, record-checks, records-after, is-over, report-checks}
-use Rattle.standing.specs.Ledger.{Ledger, Call, Report, Found, Opens, RecordCause, ReportCause, Difference, Renews, refuses, reports, Enters, refused, withdrawn, accepted, Accounts, closed, enter, Ordered}
+use Rattle.standing.specs.Checks.{Action, put, removal, record-checks, records-after, is-over, report-checks}
+use Rattle.standing.specs.Ledger.{Account, Ledger, Call, Step, opening, call, Report, Found, Begins, Opens, RecordCause, ReportCause, Difference, Renews, refuses, reports, keeping, Enters, refused, withdrawn, accepted, Accounts, closed, opens, enter}
 use Rattle.standing.specs.Ledger.Ties.{record-judged, report-judged, after-ascends, after-members, difference-unique, only-in-difference, difference-is}
 
 -- Rows at opening plus joined are left plus rows held, and these ascend.
-pub record Balanced (l : Ledger) : Type 0 where
-  pub ascending : Ascending row-below (l .rows)
-  pub counts : l .opening + l .joined ≡ l .left + length (l .rows)
+pub record Balanced (a : Account) : Type 0 where
+  pub ascending : Ascending row-below (a .rows)
+  pub counts : a .opening + a .joined ≡ a .left + length (a .rows)
 
 -- No number above 0 is 0.
 never : {A : Type 0} {x : ℕ} → 0 < x → x ≡ 0 → A
 never h e = absurd (omega arith)
 
--- ---- the ledger after a call, as a function
-
--- The ledger with the call's record added or taken out, and these rows and mark found anew.
-abbrev pub renewed : Ledger → Call → Bool → List Row → Ledger
-renewed l c mark rows =
-    record {
-      widths = l .widths;
-      records = records-after (c .kind) (c .tuple) (l .records);
-      rows = rows;
-      endless = mark;
-      opening = l .opening;
-      joined = l .joined + length (only-in rows (l .rows));
-      left = l .left + length (only-in (l .rows) rows);
-    }
-
--- The report and the ledger by the first cause met.
-abbrev pub entered : Outcome → Ledger → Ledger → Report × Ledger
-entered Done l n = (reports (only-in (n .rows) (l .rows)) (only-in (l .rows) (n .rows)), n)
-entered (Refused x p) l n = (record { number = x; place = p; joined = []; left = [] }, l)
+-- ---- what is found
 
 module _ (q : Query) where
-  -- The number of columns.
-  abbrev k : ℕ
-  k = length (columns (formula q))
-
-  -- ---- what is found
-
   -- What the query answers over records of these widths.
   abbrev pub result-among : List ℕ → List Record → Result
   result-among ws rs = query-result (pool q) (map (fact-of ws) rs) (formula q) (columns (formula q))
@@ -102,273 +78,268 @@ module _ (q : Query) where
     found-ascending true rows f = subst⁻¹ (Ascending row-below) (f .1) nothing
     found-ascending false rows f = f .0
 
-  -- ---- it is unique
+-- ---- it is unique
 
-  -- The ledger of an opening.
-  abbrev pub opening-ledger : Store → Ledger
-  opening-ledger s =
-      let found : Result = result-among (s .widths) (held s) in
-      record { widths = s .widths; records = held s; rows = kept found; endless = mark found; opening = length (kept found); joined = 0; left = 0 }
+-- The account of an opening.
+abbrev pub opening-account : Query → List ℕ → List Record → Account
+opening-account q ws rs =
+    let found : Result = result-among q ws rs in
+    record { query = q; rows = kept found; endless = mark found; opening = length (kept found); joined = 0; left = 0 }
 
-  pub opens-is : (s : Store) (l : Ledger) → Opens q s l → l ≡ opening-ledger s
-  opens-is s l o =
+module _ (q : Query) (l : Ledger) where
+  pub opens-is : (a : Account) → Opens q l a → a ≡ opening-account q (l .widths) (l .records)
+  opens-is a o =
+      let found = found-is q (l .widths) (l .records) (a .endless) (a .rows) (o .found) in
       λ i. record {
-        widths = o .widths-are i;
-        records = o .records-are i;
+        query = o .query-is i;
         rows = found .1 i;
         endless = found .0 i;
         opening = (o .opening-is ∙ ap length (found .1)) i;
         joined = o .joined-is i;
         left = o .left-is i;
       }
-    where
-      found : (l .endless ≡ mark (result-among (s .widths) (held s))) × (l .rows ≡ kept (result-among (s .widths) (held s)))
-      found =
-          found-is (s .widths) (held s) (l .endless) (l .rows)
-          (subst (λ rs. Found q (s .widths) rs (l .endless) (l .rows)) (o .records-are) (subst (λ ws. Found q ws (l .records) (l .endless) (l .rows)) (o .widths-are) (o .found)))
 
-  pub opens-unique : (s : Store) (l m : Ledger) → Opens q s l → Opens q s m → l ≡ m
-  opens-unique s l m a b = opens-is s l a ∙ sym (opens-is s m b)
+  pub opens-unique : (a b : Account) → Opens q l a → Opens q l b → a ≡ b
+  opens-unique a b o p = opens-is a o ∙ sym (opens-is b p)
 
-  module _ (l : Ledger) (c : Call) where
-    -- Two renewals of a ledger by one call have the same records, so they find the same.
-    module _ {joined left others gone : List Row} {n m : Ledger} (a : Renews q l c joined left n) (b : Renews q l c others gone m) where
-      same-records : n .records ≡ m .records
-      same-records = ascending-unique record-below record-order (a .records-ascend) (b .records-ascend) (λ r. Iff·trans (a .records-are r) (Iff·symm (b .records-are r)))
+  pub opening-opens : Opens q l (opening-account q (l .widths) (l .records))
+  opening-opens = record { query-is = refl; found = found-among q (l .widths) (l .records); opening-is = refl; joined-is = refl; left-is = refl }
 
-      same-widths : n .widths ≡ m .widths
-      same-widths = a .widths-are ∙ sym (b .widths-are)
+  pub ledger-opens : (a : Account) × Opens q l a
+  ledger-opens = (opening-account q (l .widths) (l .records), opening-opens)
 
-      same-found : (n .endless ≡ m .endless) × (n .rows ≡ m .rows)
-      same-found =
-          let f = found-is (n .widths) (n .records) (n .endless) (n .rows) (a .found) in
-          let g = found-is (m .widths) (m .records) (m .endless) (m .rows) (b .found) in
-          let e : result-among (n .widths) (n .records) ≡ result-among (m .widths) (m .records) = λ i. result-among (same-widths i) (same-records i) in
-          (f .0 ∙ ap mark e ∙ sym (g .0), f .1 ∙ ap kept e ∙ sym (g .1))
+module _ (l : Ledger) (a : Account) (c : Call) where
+  -- Two renewals by one call have the same records, so they find the same.
+  module _ {joined left others gone : List Row} {rs us : List Record} {b d : Account} (x : Renews l a c joined left rs b) (y : Renews l a c others gone us d) where
+    renews-records : rs ≡ us
+    renews-records = ascending-unique record-below record-order (x .records-ascend) (y .records-ascend) (λ r. Iff·trans (x .records-are r) (Iff·symm (y .records-are r)))
 
-      renews-joined : joined ≡ others
-      renews-joined = difference-unique (m .rows) (l .rows) (subst (λ rows. Difference rows (l .rows) joined) (same-found .1) (a .joined-rows)) (b .joined-rows)
+    same-found : (b .endless ≡ d .endless) × (b .rows ≡ d .rows)
+    same-found =
+        let f = found-is (a .query) (l .widths) rs (b .endless) (b .rows) (x .found) in
+        let g = found-is (a .query) (l .widths) us (d .endless) (d .rows) (y .found) in
+        let e : result-among (a .query) (l .widths) rs ≡ result-among (a .query) (l .widths) us = ap (result-among (a .query) (l .widths)) renews-records in
+        (f .0 ∙ ap mark e ∙ sym (g .0), f .1 ∙ ap kept e ∙ sym (g .1))
 
-      renews-left : left ≡ gone
-      renews-left = difference-unique (l .rows) (m .rows) (subst (λ rows. Difference (l .rows) rows left) (same-found .1) (a .left-rows)) (b .left-rows)
+    renews-joined : joined ≡ others
+    renews-joined = difference-unique (d .rows) (a .rows) (subst (λ rows. Difference rows (a .rows) joined) (same-found .1) (x .joined-rows)) (y .joined-rows)
 
-      renews-unique : n ≡ m
-      renews-unique =
-          λ i. record {
-            widths = same-widths i;
-            records = same-records i;
-            rows = same-found .1 i;
-            endless = same-found .0 i;
-            opening = (a .opening-is ∙ sym (b .opening-is)) i;
-            joined = (a .joined-is ∙ ap (λ rows. l .joined + length rows) renews-joined ∙ sym (b .joined-is)) i;
-            left = (a .left-is ∙ ap (λ rows. l .left + length rows) renews-left ∙ sym (b .left-is)) i;
-          }
+    renews-left : left ≡ gone
+    renews-left = difference-unique (a .rows) (d .rows) (subst (λ rows. Difference (a .rows) rows left) (same-found .1) (x .left-rows)) (y .left-rows)
 
-    -- One first cause is met by the record,
-    same-record-cause : {x y : ℕ} → RecordCause l (c .kind) (c .tuple) x → RecordCause l (c .kind) (c .tuple) y → x ≡ y
-    same-record-cause {x} {y} a b = let j = record-judged l (c .kind) (c .tuple) in j .number-is x .0 a ∙ sym (j .number-is y .0 b)
-
-    -- The renewed ledger meets one first cause.
-    same-report-cause : {joined left others gone : List Row} {n m : Ledger} {x y : ℕ} → Renews q l c joined left n → Renews q l c others gone m → ReportCause n k joined left c x → ReportCause m k others gone c y → x ≡ y
-    same-report-cause {joined} {left} {others} {gone} {n} {m} {x} {y} a b u v =
-        let j = report-judged m k others gone c in
-        let w = subst₂ (λ js ls. ReportCause m k js ls c x) (renews-joined a b) (renews-left a b) (subst (λ o. ReportCause o k joined left c x) (renews-unique a b) u) in
-        j .number-is x .0 w ∙ sym (j .number-is y .0 v)
-
-  -- A call has one answer, and one ledger after it.
-  pub enters-unique : {l n m : Ledger} {c : Call} {r u : Report} → Enters q l c r n → Enters q l c u m → (r ≡ u) × (n ≡ m)
-  enters-unique {l} {c = c} (refused h a) (refused g b) = (ap refuses (same-record-cause l c a b), refl)
-  enters-unique {l} {c = c} (refused h a) (withdrawn b y g v) = never h (same-record-cause l c a b)
-  enters-unique {l} {c = c} (refused h a) (accepted b y v) = never h (same-record-cause l c a b)
-  enters-unique {l} {c = c} (withdrawn a x h u) (refused g b) = never g (same-record-cause l c b a)
-  enters-unique {l} {c = c} (withdrawn a x h u) (withdrawn b y g v) = (ap refuses (same-report-cause l c x y u v), refl)
-  enters-unique {l} {c = c} (withdrawn a x h u) (accepted b y v) = never h (same-report-cause l c x y u v)
-  enters-unique {l} {c = c} (accepted a x u) (refused g b) = never g (same-record-cause l c b a)
-  enters-unique {l} {c = c} (accepted a x u) (withdrawn b y g v) = never g (same-report-cause l c y x v u)
-  enters-unique {l} {c = c} (accepted a x u) (accepted b y v) = (λ i. reports (renews-joined l c x y i) (renews-left l c x y i), renews-unique l c x y)
-
-  pub accounts-unique : (l : Ledger) (cs : List Call) (rs us : List Report) (n o : Ledger) → Accounts q l cs rs n → Accounts q l cs us o → (rs ≡ us) × (n ≡ o)
-  accounts-unique l [] rs us n o closed closed = (refl, refl)
-  accounts-unique l (c ∷ cs) rs us n o (enter {m = m} {r = r} {rs = rs′} e a) (enter {m = p} {r = u} {rs = us′} f b) =
-      let one = enters-unique e f in
-      let rest = accounts-unique m cs rs′ us′ n o a (subst⁻¹ (λ x. Accounts q x cs us′ o) (one .1) b) in
-      (λ i. one .0 i ∷ rest .0 i, rest .1)
-
-  -- ---- the ledger as a function
-
-  -- The engine's checks of the record, 13 to 16, and of what the ledger would come to, 17 to 19.
-  abbrev record-tests : Ledger → Call → List Check
-  record-tests l c = record-checks (c .kind) (l .widths) (l .records) (c .tuple)
-
-  abbrev report-tests : Ledger → Call → Ledger → List Check
-  report-tests l c n =
-      report-checks
-      (is-over (length (n .rows)))
-      (n .opening ∷ n .joined ∷ n .left ∷ [])
-      k
-      (length (only-in (n .rows) (l .rows)))
-      (length (only-in (l .rows) (n .rows)))
-      (length (c .first))
-      (length (c .second))
-
-  -- What a call answers, and the ledger after it, where these answers are found anew.
-  abbrev pub entry-by : Ledger → Call → Result → Report × Ledger
-  entry-by l c found = let n : Ledger = renewed l c (mark found) (kept found) in entered (first-cause (record-tests l c ++ report-tests l c n)) l n
-
-  abbrev pub entry : Ledger → Call → Report × Ledger
-  entry l c = entry-by l c (result-among (l .widths) (records-after (c .kind) (c .tuple) (l .records)))
-
-  -- The reports of any number of calls, and the ledger after them.
-  abbrev pub entries : Ledger → List Call → List Report × Ledger
-  entries l [] = ([], l)
-  entries l (c ∷ cs) = let rest : List Report × Ledger = entries (entry l c .1) cs in (entry l c .0 ∷ rest .0, rest .1)
-
-  -- ---- it exists, where records and rows ascend
-
-  pub opening-opens : (s : Store) → Opens q s (opening-ledger s)
-  opening-opens s = record { widths-are = refl; records-are = refl; found = found-among (s .widths) (held s); opening-is = refl; joined-is = refl; left-is = refl }
-
-  pub ledger-opens : (s : Store) → (l : Ledger) × Opens q s l
-  ledger-opens s = (opening-ledger s, opening-opens s)
-
-  -- Records and rows ascend at the opening over a store in the layout, and every call keeps them so.
-  pub opens-ordered : (s : Store) (l : Ledger) → judgement s ≡ Done → Opens q s l → Ordered l
-  opens-ordered s l judged o =
-      record {
-        records-ascend = subst⁻¹ (Ascending record-below) (o .records-are) (reflected (reflects-layout s) (judged-layout s judged .1) .ascending);
-        rows-ascend = found-ascending (l .widths) (l .records) (l .endless) (l .rows) (o .found);
-      }
-
-  enters-ordered : {l n : Ledger} {c : Call} {r : Report} → Enters q l c r n → Ordered l → Ordered n
-  enters-ordered (refused h a) z = z
-  enters-ordered (withdrawn a x h u) z = z
-  enters-ordered (accepted {n = n} a x u) z = record { records-ascend = x .records-ascend; rows-ascend = found-ascending (n .widths) (n .records) (n .endless) (n .rows) (x .found) }
-
-  pub accounts-ordered : {l n : Ledger} {cs : List Call} {rs : List Report} → Accounts q l cs rs n → Ordered l → Ordered n
-  accounts-ordered closed z = z
-  accounts-ordered (enter e a) z = accounts-ordered a (enters-ordered e z)
-
-  module _ (l : Ledger) (c : Call) (z : Ordered l) where
-    abbrev found : Result
-    found = result-among (l .widths) (records-after (c .kind) (c .tuple) (l .records))
-
-    abbrev next : Ledger
-    next = renewed l c (mark found) (kept found)
-
-    next-found : Found q (next .widths) (next .records) (next .endless) (next .rows)
-    next-found = found-among (l .widths) (records-after (c .kind) (c .tuple) (l .records))
-
-    next-renews : Renews q l c (only-in (next .rows) (l .rows)) (only-in (l .rows) (next .rows)) next
-    next-renews =
-        record {
-          widths-are = refl;
-          records-ascend = after-ascends (c .kind) (c .tuple) (z .records-ascend);
-          records-are = after-members (c .kind) (c .tuple) (l .records);
-          found = next-found;
-          joined-rows = only-in-difference (l .rows) (found-ascending (next .widths) (next .records) (next .endless) (next .rows) next-found);
-          left-rows = only-in-difference (next .rows) (z .rows-ascend);
-          opening-is = refl;
-          joined-is = refl;
-          left-is = refl;
+    renews-unique : b ≡ d
+    renews-unique =
+        λ i. record {
+          query = (x .query-is ∙ sym (y .query-is)) i;
+          rows = same-found .1 i;
+          endless = same-found .0 i;
+          opening = (x .opening-is ∙ sym (y .opening-is)) i;
+          joined = (x .joined-is ∙ ap (λ rows. a .joined + length rows) renews-joined ∙ sym (y .joined-is)) i;
+          left = (x .left-is ∙ ap (λ rows. a .left + length rows) renews-left ∙ sym (y .left-is)) i;
         }
 
-    -- The call enters with the first cause that the checks meet: of the record, or of the renewed ledger.
-    abbrev EntersBy : Outcome → Type 0
-    EntersBy a = Enters q l c (entered a l next .0) (entered a l next .1)
+  -- One first cause is met by the record,
+  same-record-cause : {x y : ℕ} → RecordCause l (c .action) x → RecordCause l (c .action) y → x ≡ y
+  same-record-cause {x} {y} u v = let j = record-judged l (c .action) in j .number-is x .0 u ∙ sym (j .number-is y .0 v)
 
-    at-no-place : {x p : ℕ} → p ≡ 0 → Enters q l c (refuses x) l → EntersBy (Refused x p)
-    at-no-place {x} e w = subst⁻¹ (λ o. EntersBy (Refused x o)) e w
+  -- The renewed account meets one first cause.
+  same-report-cause : {joined left others gone : List Row} {rs us : List Record} {b d : Account} {x y : ℕ} → Renews l a c joined left rs b → Renews l a c others gone us d → ReportCause b joined left c x → ReportCause d others gone c y → x ≡ y
+  same-report-cause {joined} {left} {others} {gone} {rs} {us} {b} {d} {x} {y} m n u v =
+      let j = report-judged d others gone c in
+      let w = subst₂ (λ js ls. ReportCause d js ls c x) (renews-joined m n) (renews-left m n) (subst (λ o. ReportCause o joined left c x) (renews-unique m n) u) in
+      j .number-is x .0 w ∙ sym (j .number-is y .0 v)
 
-    record-tests-judged : Judged (RecordCause l (c .kind) (c .tuple)) (record-tests l c)
-    record-tests-judged = record-judged l (c .kind) (c .tuple)
+-- A call has one answer, and one ledger after it.
+pub enters-unique : {l n m : Ledger} {i : ℕ} {a : Account} {c : Call} {r u : Report} → Enters l i a c r n → Enters l i a c u m → (r ≡ u) × (n ≡ m)
+enters-unique {l} {a = a} {c = c} (refused h x) (refused g y) = (ap refuses (same-record-cause l a c x y), refl)
+enters-unique {l} {a = a} {c = c} (refused h x) (withdrawn y w g v) = never h (same-record-cause l a c x y)
+enters-unique {l} {a = a} {c = c} (refused h x) (accepted y w v) = never h (same-record-cause l a c x y)
+enters-unique {l} {a = a} {c = c} (withdrawn x z h u) (refused g y) = never g (same-record-cause l a c y x)
+enters-unique {l} {a = a} {c = c} (withdrawn x z h u) (withdrawn y w g v) = (ap refuses (same-report-cause l a c z w u v), refl)
+enters-unique {l} {a = a} {c = c} (withdrawn x z h u) (accepted y w v) = never h (same-report-cause l a c z w u v)
+enters-unique {l} {a = a} {c = c} (accepted x z u) (refused g y) = never g (same-record-cause l a c y x)
+enters-unique {l} {a = a} {c = c} (accepted x z u) (withdrawn y w g v) = never g (same-report-cause l a c w z v u)
+enters-unique {l} {i = i} {a = a} {c = c} (accepted x z u) (accepted y w v) = (
+  λ j. reports (renews-joined l a c z w j) (renews-left l a c z w j),
+  λ j. keeping l (renews-records l a c z w j) i (renews-unique l a c z w j),
+)
 
-    record-tests-numbered : (kind : Kind) → T (numbered (record-checks kind (l .widths) (l .records) (c .tuple)))
-    record-tests-numbered put = tt
-    record-tests-numbered removal = tt
+pub accounts-unique : (l : Ledger) (ss : List Step) (rs us : List Report) (n o : Ledger) → Accounts l ss rs n → Accounts l ss us o → (rs ≡ us) × (n ≡ o)
+accounts-unique l [] rs us n o closed closed = (refl, refl)
+accounts-unique l (opening i bs ∷ ss) rs us n o (opens {a = a} x f) (opens {a = b} y g) =
+    let same = opens-unique (read-of (l .widths) bs .query) l a b x y in
+    accounts-unique (keeping l (l .records) i a) ss rs us n o f (subst⁻¹ (λ d. Accounts (keeping l (l .records) i d) ss us o) same g)
+accounts-unique l (call i c ∷ ss) rs us n o (enter {m = m} {a = a} {r = r} {rs = rs′} e x f) (enter {m = p} {a = b} {r = u} {rs = us′} h y g) =
+    let one = enters-unique x (subst⁻¹ (λ d. Enters l i d c u p) (one-list (l .lists) i e h) y) in
+    let rest = accounts-unique m ss rs′ us′ n o f (subst⁻¹ (λ d. Accounts d ss us′ o) (one .1) g) in
+    (λ j. one .0 j ∷ rest .0 j, rest .1)
 
-    report-tests-judged : Judged (ReportCause next k (only-in (next .rows) (l .rows)) (only-in (l .rows) (next .rows)) c) (report-tests l c next)
-    report-tests-judged = report-judged next k (only-in (next .rows) (l .rows)) (only-in (l .rows) (next .rows)) c
+-- ---- the ledger after a call, as a function
 
-    by-record : (x p : ℕ) → first-cause (record-tests l c) ≡ Refused x p → EntersBy (Refused x p)
-    by-record x p e =
-        at-no-place (sym (ap place e) ∙ record-tests-judged .place-is)
-        (refused (numbered-refused (record-tests l c) (record-tests-numbered (c .kind)) x p e) (record-tests-judged .number-is x .1 (sym (ap number e))))
+-- The account with these rows and mark found anew.
+abbrev pub renewed : Account → Bool → List Row → Account
+renewed a mark rows =
+    record {
+      query = a .query;
+      rows = rows;
+      endless = mark;
+      opening = a .opening;
+      joined = a .joined + length (only-in rows (a .rows));
+      left = a .left + length (only-in (a .rows) rows);
+    }
 
-    by-report : RecordCause l (c .kind) (c .tuple) 0 → (a : Outcome) → first-cause (report-tests l c next) ≡ a → EntersBy a
-    by-report d Done e = accepted d next-renews (report-tests-judged .number-is 0 .1 (sym (ap number e)))
-    by-report d (Refused x p) e =
-        at-no-place (sym (ap place e) ∙ report-tests-judged .place-is)
-        (withdrawn d next-renews (numbered-refused (report-tests l c next) tt x p e) (report-tests-judged .number-is x .1 (sym (ap number e))))
+-- The report and the ledger by the first cause met, where the call makes these records and the account b of a.
+abbrev pub entered : Outcome → Ledger → ℕ → Account → List Record → Account → Report × Ledger
+entered Done l i a records b = (reports (only-in (b .rows) (a .rows)) (only-in (a .rows) (b .rows)), keeping l records i b)
+entered (Refused x p) l i a records b = (record { number = x; place = p; joined = []; left = [] }, l)
 
-    by-both : (a : Outcome) → first-cause (record-tests l c) ≡ a → EntersBy (first-cause (record-tests l c ++ report-tests l c next))
-    by-both Done e = subst⁻¹ EntersBy (then-done (record-tests l c) (report-tests l c next) e) (by-report (record-tests-judged .number-is 0 .1 (sym (ap number e))) (first-cause (report-tests l c next)) refl)
-    by-both (Refused x p) e = subst⁻¹ EntersBy (then-refused (record-tests l c) (report-tests l c next) x p e) (by-record x p e)
+-- The engine's checks of the record, 13 to 16, and of what the account would come to, 17 to 19.
+abbrev record-tests : Ledger → Call → List Check
+record-tests l c = record-checks (c .action) (l .widths) (l .records)
 
-    pub entry-enters : Enters q l c (entry l c .0) (entry l c .1)
-    entry-enters = by-both (first-cause (record-tests l c)) refl
+abbrev report-tests : Account → Account → Call → List Check
+report-tests a b c =
+    report-checks
+    (is-over (length (b .rows)))
+    (b .opening ∷ b .joined ∷ b .left ∷ [])
+    (length (columns (formula (b .query))))
+    (length (only-in (b .rows) (a .rows)))
+    (length (only-in (a .rows) (b .rows)))
+    (length (c .first))
+    (length (c .second))
 
-  pub entries-account : (l : Ledger) (cs : List Call) → Ordered l → Accounts q l cs (entries l cs .0) (entries l cs .1)
-  entries-account l [] z = closed
-  entries-account l (c ∷ cs) z = let e = entry-enters l c z in enter e (entries-account (entry l c .1) cs (enters-ordered e z))
+-- What a call answers, and the ledger after it, where these answers are found anew.
+abbrev pub entry-by : Ledger → ℕ → Account → Call → Result → Report × Ledger
+entry-by l i a c found =
+    let b : Account = renewed a (mark found) (kept found) in
+    entered (first-cause (record-tests l c ++ report-tests a b c)) l i a (records-after (c .action) (l .records)) b
 
-  pub ledger-goes-on : (l : Ledger) (cs : List Call) → Ordered l → (rs : List Report) × (n : Ledger) × Accounts q l cs rs n
-  ledger-goes-on l cs z = (entries l cs .0, entries l cs .1, entries-account l cs z)
+abbrev pub entry : Ledger → ℕ → Account → Call → Report × Ledger
+entry l i a c = entry-by l i a c (result-among (a .query) (l .widths) (records-after (c .action) (l .records)))
+
+-- ---- it exists, where records and rows ascend
+
+module _ (l : Ledger) (i : ℕ) (a : Account) (c : Call) (records-ascend : Ascending record-below (l .records)) (rows-ascend : Ascending row-below (a .rows)) where
+  abbrev records : List Record
+  records = records-after (c .action) (l .records)
+
+  abbrev found : Result
+  found = result-among (a .query) (l .widths) records
+
+  abbrev next : Account
+  next = renewed a (mark found) (kept found)
+
+  next-found : Found (a .query) (l .widths) records (next .endless) (next .rows)
+  next-found = found-among (a .query) (l .widths) records
+
+  next-renews : Renews l a c (only-in (next .rows) (a .rows)) (only-in (a .rows) (next .rows)) records next
+  next-renews =
+      record {
+        records-ascend = after-ascends (c .action) records-ascend;
+        records-are = after-members (c .action) (l .records);
+        query-is = refl;
+        found = next-found;
+        joined-rows = only-in-difference (a .rows) (found-ascending (a .query) (l .widths) records (next .endless) (next .rows) next-found);
+        left-rows = only-in-difference (next .rows) rows-ascend;
+        opening-is = refl;
+        joined-is = refl;
+        left-is = refl;
+      }
+
+  -- The call enters with the first cause that the checks meet: of the record, or of the renewed account.
+  abbrev EntersBy : Outcome → Type 0
+  EntersBy o = Enters l i a c (entered o l i a records next .0) (entered o l i a records next .1)
+
+  at-no-place : {x p : ℕ} → p ≡ 0 → Enters l i a c (refuses x) l → EntersBy (Refused x p)
+  at-no-place {x} e w = subst⁻¹ (λ o. EntersBy (Refused x o)) e w
+
+  record-tests-judged : Judged (RecordCause l (c .action)) (record-tests l c)
+  record-tests-judged = record-judged l (c .action)
+
+  record-tests-numbered : (action : Action) → T (numbered (record-checks action (l .widths) (l .records)))
+  record-tests-numbered (put t) = tt
+  record-tests-numbered (removal t) = tt
+
+  report-tests-judged : Judged (ReportCause next (only-in (next .rows) (a .rows)) (only-in (a .rows) (next .rows)) c) (report-tests a next c)
+  report-tests-judged = report-judged next (only-in (next .rows) (a .rows)) (only-in (a .rows) (next .rows)) c
+
+  by-record : (x p : ℕ) → first-cause (record-tests l c) ≡ Refused x p → EntersBy (Refused x p)
+  by-record x p e =
+      at-no-place (sym (ap place e) ∙ record-tests-judged .place-is)
+      (refused (numbered-refused (record-tests l c) (record-tests-numbered (c .action)) x p e) (record-tests-judged .number-is x .1 (sym (ap number e))))
+
+  by-report : RecordCause l (c .action) 0 → (o : Outcome) → first-cause (report-tests a next c) ≡ o → EntersBy o
+  by-report d Done e = accepted d next-renews (report-tests-judged .number-is 0 .1 (sym (ap number e)))
+  by-report d (Refused x p) e =
+      at-no-place (sym (ap place e) ∙ report-tests-judged .place-is)
+      (withdrawn d next-renews (numbered-refused (report-tests a next c) tt x p e) (report-tests-judged .number-is x .1 (sym (ap number e))))
+
+  by-both : (o : Outcome) → first-cause (record-tests l c) ≡ o → EntersBy (first-cause (record-tests l c ++ report-tests a next c))
+  by-both Done e =
+      subst⁻¹ EntersBy (then-done (record-tests l c) (report-tests a next c) e)
+      (by-report (record-tests-judged .number-is 0 .1 (sym (ap number e))) (first-cause (report-tests a next c)) refl)
+  by-both (Refused x p) e = subst⁻¹ EntersBy (then-refused (record-tests l c) (report-tests a next c) x p e) (by-record x p e)
+
+  pub entry-enters : Enters l i a c (entry l i a c .0) (entry l i a c .1)
+  entry-enters = by-both (first-cause (record-tests l c)) refl
+
+  pub ledger-enters : (r : Report) × (n : Ledger) × Enters l i a c r n
+  ledger-enters = (entry l i a c .0, entry l i a c .1, entry-enters)
 
   -- Every entry is the one found.
-  pub enters-is : (l : Ledger) (c : Call) (r : Report) (n : Ledger) → Ordered l → Enters q l c r n → (r, n) ≡ entry l c
-  enters-is l c r n z e = let s = enters-unique e (entry-enters l c z) in λ i. (s .0 i, s .1 i)
+  pub enters-is : {r : Report} {n : Ledger} → Enters l i a c r n → (r, n) ≡ entry l i a c
+  enters-is e = let s = enters-unique e entry-enters in λ j. (s .0 j, s .1 j)
 
-  pub accounts-is : (l n : Ledger) (cs : List Call) (rs : List Report) → Ordered l → Accounts q l cs rs n → (rs, n) ≡ entries l cs
-  accounts-is l n cs rs z a = let s = accounts-unique l cs rs (entries l cs .0) n (entries l cs .1) a (entries-account l cs z) in λ i. (s .0 i, s .1 i)
+-- ---- its reports
 
-  -- ---- its reports
+-- The rows of an account of the ledger after a call, and of the one before: a call that is answered with the number 0 reports what they differ in.
+pub enters-reports : {l n : Ledger} {i : ℕ} {a : Account} {c : Call} {r : Report} → Enters l i a c r n → r .number ≡ 0 →
+    (b : Account) × (n .lists ≡ with-list i b (l .lists)) × Difference (b .rows) (a .rows) (r .joined) × Difference (a .rows) (b .rows) (r .left)
+enters-reports (refused h x) e = never h e
+enters-reports (withdrawn x z h u) e = never h e
+enters-reports (accepted {b = b} x z u) e = (b, refl, z .joined-rows, z .left-rows)
 
-  -- A call that is answered with the number 0 reports the rows of the ledger after it that the one before has not, and those of the one before that it has not.
-  pub enters-reports : {l n : Ledger} {c : Call} {r : Report} → Enters q l c r n → r .number ≡ 0 → Difference (n .rows) (l .rows) (r .joined) × Difference (l .rows) (n .rows) (r .left)
-  enters-reports (refused h a) e = never h e
-  enters-reports (withdrawn a x h u) e = never h e
-  enters-reports (accepted a x u) e = (x .joined-rows, x .left-rows)
+-- ---- its counts
 
-  -- ---- its counts
+pub opens-balanced : (q : Query) (l : Ledger) (a : Account) → Opens q l a → Balanced a
+opens-balanced q l a o =
+    record {
+      ascending = found-ascending q (l .widths) (l .records) (a .endless) (a .rows) (o .found);
+      counts = omega (arith, o .opening-is, o .joined-is, o .left-is);
+    }
 
-  pub opens-balanced : (s : Store) (l : Ledger) → Opens q s l → Balanced l
-  opens-balanced s l o =
-      record {
-        ascending = found-ascending (l .widths) (l .records) (l .endless) (l .rows) (o .found);
-        counts = omega (arith, o .opening-is, o .joined-is, o .left-is);
-      }
+pub renewed-balanced : (a : Account) (b : Bool) (rows : List Row) → Ascending row-below rows → Balanced a → Balanced (renewed a b rows)
+renewed-balanced a b rows x d = record { ascending = x; counts = omega (arith, d .counts, change-counts (a .rows) rows (d .ascending) x) }
 
-  pub renewed-balanced : (l : Ledger) (c : Call) (b : Bool) (rows : List Row) → Ascending row-below rows → Balanced l → Balanced (renewed l c b rows)
-  renewed-balanced l c b rows a d = record { ascending = a; counts = omega (arith, d .counts, change-counts (l .rows) rows (d .ascending) a) }
+renews-balanced : {l : Ledger} {a b : Account} {c : Call} {joined left : List Row} {records : List Record} → Renews l a c joined left records b → Balanced a → Balanced b
+renews-balanced {l} {a} {b} {records = records} x d =
+    let z = found-ascending (a .query) (l .widths) records (b .endless) (b .rows) (x .found) in
+    record {
+      ascending = z;
+      counts =
+          omega (
+            arith,
+            d .counts,
+            x .opening-is,
+            x .joined-is,
+            x .left-is,
+            ap length (difference-is (a .rows) z (x .joined-rows)),
+            ap length (difference-is (b .rows) (d .ascending) (x .left-rows)),
+            change-counts (a .rows) (b .rows) (d .ascending) z,
+          );
+    }
 
-  renews-balanced : {l n : Ledger} {c : Call} {joined left : List Row} → Renews q l c joined left n → Balanced l → Balanced n
-  renews-balanced {l} {n} x d =
-      let a = found-ascending (n .widths) (n .records) (n .endless) (n .rows) (x .found) in
-      record {
-        ascending = a;
-        counts =
-            omega (
-              arith,
-              d .counts,
-              x .opening-is,
-              x .joined-is,
-              x .left-is,
-              ap length (difference-is (l .rows) a (x .joined-rows)),
-              ap length (difference-is (n .rows) (d .ascending) (x .left-rows)),
-              change-counts (l .rows) (n .rows) (d .ascending) a,
-            );
-      }
+-- A call, whatever it answers, leaves them so.
+enters-balanced : {l n : Ledger} {i : ℕ} {a : Account} {c : Call} {r : Report} → Enters l i a c r n → l .lists i ≡ some a → Every Balanced (l .lists) → Every Balanced (n .lists)
+enters-balanced (refused h x) e all = all
+enters-balanced (withdrawn x z h u) e all = all
+enters-balanced {i = i} {a = a} (accepted {b = b} x z u) e all = every-with Balanced i b (renews-balanced z (all i a e)) all
 
-  -- A call, whatever it answers, leaves them so.
-  enters-balanced : {l n : Ledger} {c : Call} {r : Report} → Enters q l c r n → Balanced l → Balanced n
-  enters-balanced (refused h a) b = b
-  enters-balanced (withdrawn a x h u) b = b
-  enters-balanced (accepted a x u) b = renews-balanced x b
+accounts-balanced : {l n : Ledger} {ss : List Step} {rs : List Report} → Accounts l ss rs n → Every Balanced (l .lists) → Every Balanced (n .lists)
+accounts-balanced closed all = all
+accounts-balanced (opens {l} {i = i} {bs} {a} o f) all = accounts-balanced f (every-with Balanced i a (opens-balanced (read-of (l .widths) bs .query) l a o) all)
+accounts-balanced (enter e x f) all = accounts-balanced f (enters-balanced x e all)
 
-  accounts-balanced : {l n : Ledger} {cs : List Call} {rs : List Report} → Accounts q l cs rs n → Balanced l → Balanced n
-  accounts-balanced closed b = b
-  accounts-balanced (enter e a) b = accounts-balanced a (enters-balanced e b)
-
-  -- Rows at opening plus joined are left plus rows held.
-  pub ledger-balanced : (s : Store) (l n : Ledger) (cs : List Call) (rs : List Report) → Opens q s l → Accounts q l cs rs n → n .opening + n .joined ≡ n .left + length (n .rows)
-  ledger-balanced s l n cs rs a b = accounts-balanced b (opens-balanced s l a) .counts
+-- Rows at opening plus joined are left plus rows held, in every list.
+pub ledger-balanced : (s : Store) (l n : Ledger) (ss : List Step) (rs : List Report) → Begins s l → Accounts l ss rs n → (i : ℕ) (a : Account) → n .lists i ≡ some a → a .opening + a .joined ≡ a .left + length (a .rows)
+ledger-balanced s l n ss rs o f i a e = accounts-balanced f (subst⁻¹ (Every Balanced) (o .lists-are) (every-none Balanced)) i a e .counts

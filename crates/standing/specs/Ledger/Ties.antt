@@ -14,16 +14,19 @@ use Rattle.calculus.specs.Reflects.{Reflects, holds, fails}
 use Rattle.calculus.specs.Reflects.Laws.{reflects-map, reflects-not, reflects-or, reflects-eqb, reflects-ltb, reflects-leb}
 use Rattle.calculus.specs.Order.{Ascending}
 use Rattle.calculus.specs.Order.Laws.{from-insert, in-insert, insert-ascending, ascending-select, ascending-unique}
+use Rattle.calculus.specs.Generators.{columns}
 use Rattle.calculus.specs.Rows.{Row, row-below, only-in}
 use Rattle.calculus.specs.Rows.Laws.{row-order, in-only-in, only-in-ascending}
 use Rattle.causes.specs.Causes.{Check, check, when, Judged}
 use Rattle.tables.specs.declared.Record.{Record}
 use Rattle.tables.specs.Records.{values-of, record-below, same-record, width, fits}
 use Rattle.tables.specs.Records.Laws.{record-order}
+use Rattle.tables.specs.Store.{has-room}
 use Rattle.tables.specs.Change.Laws.{reflects-held, in-without, from-without}
+use Rattle.query.specs.Reading.{formula}
 use Rattle.standing.specs.View.{max-rows}
-use Rattle.standing.specs.Checks.{Kind, put, removal, record-checks, records-after, is-over, is-past, report-checks}
-use Rattle.standing.specs.Ledger.{Ledger, Call, Unfit, Past, Over, cause, no-cause, RecordCause, ReportCause, Among, Difference}
+use Rattle.standing.specs.Checks.{Action, put, removal, record-checks, records-after, is-over, is-past, report-checks}
+use Rattle.standing.specs.Ledger.{Account, Ledger, Call, Unfit, Full, Past, Over, cause, no-cause, RecordCause, ReportCause, Among, Difference}
 
 -- ---- cause 13
 
@@ -72,16 +75,21 @@ reflects-unfit ws t =
     absent : Reflects (width ws t ≡ 0) (not (ltb 0 (width ws t)))
     absent = reflects-map (λ n. omega (arith, n)) (λ e l. omega (arith, e, l)) (reflects-not (reflects-ltb 0 (width ws t)))
 
+-- ---- cause 15
+
+reflects-full : (t : Record) (records : List Record) → Reflects (Full t records) (not (has-room t records))
+reflects-full t records = reflects-map (λ n. omega (arith, n)) (λ h l. omega (arith, h, l)) (reflects-not (reflects-ltb (length records) 256))
+
 -- ---- cause 17
 
 reflects-past : (n : ℕ) → Reflects (Past n) (is-past n)
 reflects-past n = reflects-map (λ h. omega (arith, h)) (λ h. omega (arith, h)) (reflects-leb (2 ^ 64) n)
 
-pub reflects-over : (n : Ledger) → Reflects (Over n) (is-over (length (n .rows)) || any-of is-past (n .opening ∷ n .joined ∷ n .left ∷ []))
-reflects-over n =
-    reflects-or (reflects-ltb max-rows (length (n .rows)))
-    (reflects-or (reflects-past (n .opening))
-    (reflects-or (reflects-past (n .joined)) (subst⁻¹ (Reflects (Past (n .left))) (or-false (is-past (n .left))) (reflects-past (n .left)))))
+pub reflects-over : (a : Account) → Reflects (Over a) (is-over (length (a .rows)) || any-of is-past (a .opening ∷ a .joined ∷ a .left ∷ []))
+reflects-over a =
+    reflects-or (reflects-ltb max-rows (length (a .rows)))
+    (reflects-or (reflects-past (a .opening))
+    (reflects-or (reflects-past (a .joined)) (subst⁻¹ (Reflects (Past (a .left))) (or-false (is-past (a .left))) (reflects-past (a .left)))))
 
 -- ---- the first cause met
 
@@ -97,39 +105,40 @@ judged-cause n (fails m) j =
     }
 
 -- Causes 13 to 16, and 17 to 19: the ledger's are the engine's.
-pub record-judged : (l : Ledger) (kind : Kind) (t : Record) → Judged (RecordCause l kind t) (record-checks kind (l .widths) (l .records) t)
-record-judged l put t =
+pub record-judged : (l : Ledger) (action : Action) → Judged (RecordCause l action) (record-checks action (l .widths) (l .records))
+record-judged l (put t) =
     judged-cause 13 (reflects-unfit (l .widths) t)
     (judged-cause 14 (reflects-held t (l .records))
-    (judged-cause 15 (reflects-leb 256 (length (l .records)))
+    (judged-cause 15 (reflects-full t (l .records))
     judged-none))
-record-judged l removal t =
+record-judged l (removal t) =
     judged-cause 13 (reflects-unfit (l .widths) t)
     (judged-cause 16 (reflects-not (reflects-held t (l .records)))
     judged-none)
 
-pub report-judged : (n : Ledger) (k : ℕ) (joined left : List Row) (c : Call) →
-    Judged (ReportCause n k joined left c)
-    (report-checks (is-over (length (n .rows))) (n .opening ∷ n .joined ∷ n .left ∷ []) k (length joined) (length left) (length (c .first)) (length (c .second)))
-report-judged n k joined left c =
-    judged-cause 17 (reflects-over n)
+pub report-judged : (a : Account) (joined left : List Row) (c : Call) →
+    Judged (ReportCause a joined left c)
+    (report-checks (is-over (length (a .rows))) (a .opening ∷ a .joined ∷ a .left ∷ []) (length (columns (formula (a .query)))) (length joined) (length left) (length (c .first)) (length (c .second)))
+report-judged a joined left c =
+    let k : ℕ = length (columns (formula (a .query))) in
+    judged-cause 17 (reflects-over a)
     (judged-cause 18 (reflects-ltb (length (c .first)) (length joined * k))
     (judged-cause 19 (reflects-ltb (length (c .second)) (length left * k))
     judged-none))
 
 -- ---- the records after a call
 
-pub after-ascends : (kind : Kind) (t : Record) {records : List Record} → Ascending record-below records → Ascending record-below (records-after kind t records)
-after-ascends put t a = insert-ascending record-below record-order t a
-after-ascends removal t a = ascending-select record-below (λ p. not (same-record t p)) a
+pub after-ascends : (action : Action) {records : List Record} → Ascending record-below records → Ascending record-below (records-after action records)
+after-ascends (put t) a = insert-ascending record-below record-order t a
+after-ascends (removal t) a = ascending-select record-below (λ p. not (same-record t p)) a
 
-pub after-members : (kind : Kind) (t : Record) (records : List Record) (r : Record) → In r (records-after kind t records) ↔ Among kind t records r
-after-members put t records r = (λ i. ⊎-elim inr inl (in-cons (from-insert record-below t records r i)), ⊎-elim (λ i. in-insert record-below record-order t records r (there i)) (λ e. in-insert record-below record-order t records r (here e)))
-after-members removal t records r = (λ i. let h = from-without t records i in (h .0, λ e. h .1 (sym e)), λ h. in-without (h .0) (λ e. h .1 (sym e)))
+pub after-members : (action : Action) (records : List Record) (r : Record) → In r (records-after action records) ↔ Among action records r
+after-members (put t) records r = (λ i. ⊎-elim inr inl (in-cons (from-insert record-below t records r i)), ⊎-elim (λ i. in-insert record-below record-order t records r (there i)) (λ e. in-insert record-below record-order t records r (here e)))
+after-members (removal t) records r = (λ i. let h = from-without t records i in (h .0, λ e. h .1 (sym e)), λ h. in-without (h .0) (λ e. h .1 (sym e)))
 
 -- Of ascending records, the ascending list that has them is the engine's.
-pub after-is : (kind : Kind) (t : Record) {records rs : List Record} → Ascending record-below records → Ascending record-below rs → ((r : Record) → In r rs ↔ Among kind t records r) → rs ≡ records-after kind t records
-after-is kind t {records} {rs} a b m = ascending-unique record-below record-order b (after-ascends kind t a) (λ r. Iff·trans (m r) (Iff·symm (after-members kind t records r)))
+pub after-is : (action : Action) {records rs : List Record} → Ascending record-below records → Ascending record-below rs → ((r : Record) → In r rs ↔ Among action records r) → rs ≡ records-after action records
+after-is action {records} {rs} a b m = ascending-unique record-below record-order b (after-ascends action a) (λ r. Iff·trans (m r) (Iff·symm (after-members action records r)))
 
 -- ---- rows joined and left
 

@@ -7,15 +7,15 @@ use mathlib.Core.Bool.{Bool, true, false, not, cond}
 use mathlib.Core.List.{List, [], _∷_, _++_, map, append-assoc}
 use lib.ListN.{length, getD, take, drop, replicate, length-append, length-drop, replicate-append-replicate, List·getD-append}
 use lib.Seq.{length-take-le, take-append-le, drop-append-le, getD-take, getD-drop, getD-append-add}
-use lib.Dec.{T, leb}
+use lib.Dec.{T}
 use Rattle.calculus.specs.Sets.{In, here, there}
 use Rattle.calculus.specs.Sets.Laws.{in-nil, in-cons, in-rest, in-map, from-map, in-select, from-select, reflects-in}
 use Rattle.calculus.specs.Lists.{padded}
 use Rattle.calculus.specs.Lists.Laws.{select-all, take-padded}
 use Rattle.calculus.specs.Order.{Ascending, before, insert}
-use Rattle.calculus.specs.Order.Laws.{below-differs, below-one-way, from-insert, in-insert, insert-ascending, ascending-select, select-length, length-insert-le}
+use Rattle.calculus.specs.Order.Laws.{below-differs, below-one-way, from-insert, in-insert, insert-ascending, ascending-select}
 use Rattle.calculus.specs.Reflects.{Reflects, holds, fails}
-use Rattle.calculus.specs.Reflects.Laws.{reflects, reflected, reflects-true, reflects-false, reflects-T, reflects-map, reflects-not, reflects-leb}
+use Rattle.calculus.specs.Reflects.Laws.{reflects, reflected, reflects-true, reflects-false, reflects-T, reflects-map, reflects-not}
 use Rattle.calculus.specs.Satisfaction.{Fact}
 use Rattle.causes.specs.declared.Answer.{Answer}
 use Rattle.causes.specs.declared.Answer.the-variants.{Done, Refused}
@@ -25,7 +25,8 @@ use Rattle.tables.specs.declared.Record.{Record}
 use Rattle.tables.specs.declared.Store.{Store}
 use Rattle.tables.specs.Records.{blank, record-below, same-record, fits, fact-of}
 use Rattle.tables.specs.Records.Laws.{reflects-same-record, record-order, fact-injective}
-use Rattle.tables.specs.Store.{capacity, places-of, held, facts, in-layout, judgement, of-places, store-of, Layout}
+use Rattle.tables.specs.Store.{capacity, places-of, held, facts, has-room, have-room, in-layout, judgement, of-places, store-of, Layout}
+use Rattle.tables.specs.Store.Room.{room-few, room-insert, room-without}
 use Rattle.tables.specs.Store.Laws.{length-places, places-store-of, held-store-of, facts-store-of, reflects-layout, length-held, layout-places, layout-store-of}
 use Rattle.tables.specs.Change.{is-held, without, reply, put-reply, removal-reply, rank}
 use Rattle.tables.specs.Code.Change.{found, raised, lowered, insertion, deletion}
@@ -103,36 +104,36 @@ length-put-in ps k r h = simp (length-append, length-drop, length-take-le) (omeg
 length-taken-out : (ps : List Record) (k : ℕ) → k < length ps → suc (length (take k ps ++ drop (suc k) ps)) ≡ length ps
 length-taken-out ps k h = let l : k ≤ length ps = omega arith in simp (length-append, length-drop, length-take-le) (omega arith)
 
-raised-padded : (ps : List Record) (k : ℕ) (r : Record) → k ≤ length ps → length ps < 256 → raised (padded capacity blank ps) k r ≡ padded capacity blank (take k ps ++ (r ∷ drop k ps))
+raised-padded : (ps : List Record) (k : ℕ) (r : Record) → k ≤ length ps → length ps < capacity → raised (padded capacity blank ps) k r ≡ padded capacity blank (take k ps ++ (r ∷ drop k ps))
 raised-padded ps k r h l =
     rw (take-append-le k ps, drop-append-le) (
-    ap (take 256) (sym (append-assoc (take k ps) (r ∷ drop k ps) blanks)) ∙ take-padded 256 (256 - length ps) blank (take k ps ++ (r ∷ drop k ps)) (omega (arith, length-put-in ps k r h)) (omega (arith, length-put-in ps k r h)))
+    ap (take capacity) (sym (append-assoc (take k ps) (r ∷ drop k ps) blanks)) ∙ take-padded capacity (capacity - length ps) blank (take k ps ++ (r ∷ drop k ps)) (omega (arith, length-put-in ps k r h)) (omega (arith, length-put-in ps k r h)))
   where
     blanks : List Record
-    blanks = replicate (256 - length ps) blank
+    blanks = replicate (capacity - length ps) blank
 
-lowered-padded : (ps : List Record) (k : ℕ) → k < length ps → length ps ≤ 256 → lowered (padded capacity blank ps) k ≡ padded capacity blank (take k ps ++ drop (suc k) ps)
+lowered-padded : (ps : List Record) (k : ℕ) → k < length ps → length ps ≤ capacity → lowered (padded capacity blank ps) k ≡ padded capacity blank (take k ps ++ drop (suc k) ps)
 lowered-padded ps k h l =
     let m : k ≤ length ps = omega arith in
     let n : suc k ≤ length ps = h in
-    let e : 256 - length ps + 1 ≡ 256 - length (take k ps ++ drop (suc k) ps) = omega (arith, length-taken-out ps k h) in
+    let e : capacity - length ps + 1 ≡ capacity - length (take k ps ++ drop (suc k) ps) = omega (arith, length-taken-out ps k h) in
     rw (take-append-le, drop-append-le) (
     ap (λ qs. qs ++ (blank ∷ [])) (sym (append-assoc (take k ps) (drop (suc k) ps) blanks))
     ∙ append-assoc (take k ps ++ drop (suc k) ps) blanks (blank ∷ [])
-    ∙ ap (λ qs. take k ps ++ drop (suc k) ps ++ qs) (replicate-append-replicate (256 - length ps) 1 blank ∙ ap (λ j. replicate j blank) e))
+    ∙ ap (λ qs. take k ps ++ drop (suc k) ps ++ qs) (replicate-append-replicate (capacity - length ps) 1 blank ∙ ap (λ j. replicate j blank) e))
   where
     blanks : List Record
-    blanks = replicate (256 - length ps) blank
+    blanks = replicate (capacity - length ps) blank
 
 -- Below place k nothing moves; from there on each record goes one place up.
-pub raised-below : (ps : List Record) (k i : ℕ) (r : Record) → k ≤ length ps → i < k → i < 256 → getD (raised ps k r) i blank ≡ getD ps i blank
-raised-below ps k i r h l m = getD-take 256 (take k ps ++ (r ∷ drop k ps)) i blank m ∙ List·getD-append (take k ps) (r ∷ drop k ps) blank i (omega (arith, length-take-le k ps h)) ∙ getD-take k ps i blank l
+pub raised-below : (ps : List Record) (k i : ℕ) (r : Record) → k ≤ length ps → i < k → i < capacity → getD (raised ps k r) i blank ≡ getD ps i blank
+raised-below ps k i r h l m = getD-take capacity (take k ps ++ (r ∷ drop k ps)) i blank m ∙ List·getD-append (take k ps) (r ∷ drop k ps) blank i (omega (arith, length-take-le k ps h)) ∙ getD-take k ps i blank l
 
 pub raised-above : (ps : List Record) (k i : ℕ) (r : Record) → k ≤ length ps → k ≤ i → i < 255 → getD (raised ps k r) (suc i) blank ≡ getD ps i blank
 raised-above ps k i r h l m =
     let e : suc i ≡ length (take k ps) + suc (i - k) = omega (arith, length-take-le k ps h) in
     let f : k + (i - k) ≡ i = omega arith in
-    getD-take 256 (take k ps ++ (r ∷ drop k ps)) (suc i) blank (omega arith)
+    getD-take capacity (take k ps ++ (r ∷ drop k ps)) (suc i) blank (omega arith)
     ∙ ap (λ j. getD (take k ps ++ (r ∷ drop k ps)) j blank) e
     ∙ getD-append-add (take k ps) (r ∷ drop k ps) (suc (i - k)) blank
     ∙ getD-drop k ps (i - k) blank
@@ -181,7 +182,7 @@ reply-same (Refused n p) s t u h = refl
 -- ---- the checks past the judgement, by whether the record is held
 
 abbrev pub put-checks : Store → Record → Bool → List Check
-put-checks s r b = check 13 (when (not (fits (s .widths) r))) ∷ check 14 (when b) ∷ check 15 (when (leb capacity (s .count))) ∷ []
+put-checks s r b = check 13 (when (not (fits (s .widths) r))) ∷ check 14 (when b) ∷ check 15 (when (not (has-room r (held s)))) ∷ []
 
 abbrev removal-checks : Store → Record → Bool → List Check
 removal-checks s r b = check 13 (when (not (fits (s .widths) r))) ∷ check 16 (when (not b)) ∷ []
@@ -234,14 +235,11 @@ removal-judged s r n p e = ap (λ a. reply a s (after-removal s r)) (judged-badl
 
 -- ---- what the checks past it leave, where they find nothing
 
-put-clear : (s : Store) (r : Record) (b : Bool) → first-cause (put-checks s r b) ≡ Done → T (fits (s .widths) r) × (¬ T b) × (s .count < 256)
+put-clear : (s : Store) (r : Record) (b : Bool) → first-cause (put-checks s r b) ≡ Done → T (fits (s .widths) r) × (¬ T b) × T (has-room r (held s))
 put-clear s r b e =
-    let p = first-passed 13 (fits (s .widths) r) (check 14 (when b) ∷ check 15 (when (leb capacity (s .count))) ∷ []) e in
-    let q = first-clear 14 b (check 15 (when (leb capacity (s .count))) ∷ []) (p .1) in
-    (p .0, subst T (q .0), room (λ h. subst T (first-clear 15 (leb capacity (s .count)) [] (q .1) .0) (reflects (reflects-leb 256 (s .count)) h)))
-  where
-    room : ¬ (256 ≤ s .count) → s .count < 256
-    room n = omega arith
+    let p = first-passed 13 (fits (s .widths) r) (check 14 (when b) ∷ check 15 (when (not (has-room r (held s)))) ∷ []) e in
+    let q = first-clear 14 b (check 15 (when (not (has-room r (held s)))) ∷ []) (p .1) in
+    (p .0, subst T (q .0), first-passed 15 (has-room r (held s)) [] (q .1) .0)
 
 removal-clear : (s : Store) (r : Record) (b : Bool) → first-cause (removal-checks s r b) ≡ Done → T (fits (s .widths) r) × T b
 removal-clear s r b e = let p = first-passed 13 (fits (s .widths) r) (check 16 (when (not b)) ∷ []) e in (p .0, first-passed 16 b [] (p .1) .0)
@@ -252,11 +250,15 @@ module _ (s : Store) (r : Record) (l : Layout s) where
   few : length (held s) ≡ s .count
   few = length-held s (l .count-fits)
 
-  raised-places : found r (held s) ≡ false → s .count < 256 → raised (places-of s) (rank r (held s)) r ≡ padded capacity blank (insert record-below r (held s))
-  raised-places f h = ap (λ ps. raised ps (rank r (held s)) r) (layout-places s l) ∙ raised-padded (held s) (rank r (held s)) r (rank-le r (held s)) (omega (arith, few)) ∙ ap (padded capacity blank) (sym (insert-at-rank r (held s) f))
+  -- The records held and one that isn't among them are one more.
+  one-more : found r (held s) ≡ false → length (insert record-below r (held s)) ≡ suc (length (held s))
+  one-more f = ap length (insert-at-rank r (held s) f) ∙ length-put-in (held s) (rank r (held s)) r (rank-le r (held s))
 
-  insertion-store : found r (held s) ≡ false → s .count < 256 → of-places (s .widths) (raised (places-of s) (rank r (held s)) r) (s .count + 1) ≡ after-put s r
-  insertion-store f h = ap₂ (of-places (s .widths)) (raised-places f h) (omega (arith, few, ap length (insert-at-rank r (held s) f), length-put-in (held s) (rank r (held s)) r (rank-le r (held s))))
+  raised-places : found r (held s) ≡ false → T (has-room r (held s)) → raised (places-of s) (rank r (held s)) r ≡ padded capacity blank (insert record-below r (held s))
+  raised-places f h = ap (λ ps. raised ps (rank r (held s)) r) (layout-places s l) ∙ raised-padded (held s) (rank r (held s)) r (rank-le r (held s)) (omega (arith, one-more f, room-few (insert record-below r (held s)) (room-insert r (held s) h (l .room)))) ∙ ap (padded capacity blank) (sym (insert-at-rank r (held s) f))
+
+  insertion-store : found r (held s) ≡ false → T (has-room r (held s)) → of-places (s .widths) (raised (places-of s) (rank r (held s)) r) (s .count + 1) ≡ after-put s r
+  insertion-store f h = ap₂ (of-places (s .widths)) (raised-places f h) (omega (arith, few, one-more f))
 
   lowered-places : found r (held s) ≡ true → lowered (places-of s) (rank r (held s)) ≡ padded capacity blank (without r (held s))
   lowered-places f = ap (λ ps. lowered ps (rank r (held s))) (layout-places s l) ∙ lowered-padded (held s) (rank r (held s)) (rank-found r (held s) f) (omega (arith, few, l .count-fits)) ∙ ap (padded capacity blank) (sym (without-at-rank r (held s) (l .ascending) f))
@@ -316,11 +318,14 @@ module _ (s : Store) (r : Record) (done : put-reply s r .answer ≡ Done) where
   put-judged-well : T (widths-fit (s .widths)) × Layout s × (first-cause (put-checks s r (is-held r (held s))) ≡ Done)
   put-judged-well = judged-done s (put-checks s r (is-held r (held s))) (sym (reply-answer (put-answer s r) s (after-put s r)) ∙ done)
 
-  put-allowed : T (fits (s .widths) r) × (¬ T (is-held r (held s))) × (s .count < 256)
+  put-allowed : T (fits (s .widths) r) × (¬ T (is-held r (held s))) × T (has-room r (held s))
   put-allowed = put-clear s r (is-held r (held s)) (put-judged-well .2)
 
-  put-few : length (insert record-below r (held s)) ≤ 256
-  put-few = omega (arith, put-allowed .2, length-held s (put-judged-well .1 .count-fits), length-insert-le record-below r (held s))
+  put-room : T (have-room (insert record-below r (held s)))
+  put-room = room-insert r (held s) (put-allowed .2) (put-judged-well .1 .room)
+
+  put-few : length (insert record-below r (held s)) ≤ capacity
+  put-few = room-few (insert record-below r (held s)) put-room
 
   put-fit : (q : Record) → In q (r ∷ held s) → T (fits (s .widths) q)
   put-fit q (here e) = subst⁻¹ (λ x. T (fits (s .widths) x)) e (put-allowed .0)
@@ -329,7 +334,7 @@ module _ (s : Store) (r : Record) (done : put-reply s r .answer ≡ Done) where
   pub put-layout : T (widths-fit (put-reply s r .store .widths)) × Layout (put-reply s r .store)
   put-layout =
       subst⁻¹ (λ t. T (widths-fit (t .widths)) × Layout t) put-store
-      (put-judged-well .0, layout-store-of (s .widths) (insert record-below r (held s)) put-few (λ q i. put-fit q (from-insert record-below r (held s) q i)) (insert-ascending record-below record-order r (put-judged-well .1 .ascending)))
+      (put-judged-well .0, layout-store-of (s .widths) (insert record-below r (held s)) put-room (λ q i. put-fit q (from-insert record-below r (held s) q i)) (insert-ascending record-below record-order r (put-judged-well .1 .ascending)))
 
   pub put-held : held (put-reply s r .store) ≡ insert record-below r (held s)
   put-held = ap held put-store ∙ held-store-of (s .widths) (insert record-below r (held s)) put-few
@@ -350,7 +355,7 @@ module _ (s : Store) (r : Record) (done : put-reply s r .answer ≡ Done) where
   pub put-places : (k : ℕ) → (k < rank r (held s) → getD (places-of (put-reply s r .store)) k blank ≡ getD (places-of s) k blank) × (rank r (held s) ≤ k → k < 255 → getD (places-of (put-reply s r .store)) (suc k) blank ≡ getD (places-of s) k blank)
   put-places k = (λ h. ap (λ ps. getD ps k blank) put-raised ∙ raised-below (places-of s) (rank r (held s)) k r within h (omega (arith, within, all)), λ h m. ap (λ ps. getD ps (suc k) blank) put-raised ∙ raised-above (places-of s) (rank r (held s)) k r within h m)
     where
-      all : length (places-of s) ≡ 256
+      all : length (places-of s) ≡ capacity
       all = length-places (s .relations) (s .values)
 
       within : rank r (held s) ≤ length (places-of s)
@@ -387,13 +392,16 @@ module _ (s : Store) (r : Record) (done : removal-reply s r .answer ≡ Done) wh
   removal-judged-well : T (widths-fit (s .widths)) × Layout s × (first-cause (removal-checks s r (is-held r (held s))) ≡ Done)
   removal-judged-well = judged-done s (removal-checks s r (is-held r (held s))) (sym (reply-answer (removal-answer s r) s (after-removal s r)) ∙ done)
 
-  removal-few : length (without r (held s)) ≤ 256
-  removal-few = omega (arith, select-length (λ p. not (same-record r p)) (held s), length-held s (removal-judged-well .1 .count-fits), removal-judged-well .1 .count-fits)
+  removal-room : T (have-room (without r (held s)))
+  removal-room = room-without r (held s) (removal-judged-well .1 .room)
+
+  removal-few : length (without r (held s)) ≤ capacity
+  removal-few = room-few (without r (held s)) removal-room
 
   pub removal-layout : T (widths-fit (removal-reply s r .store .widths)) × Layout (removal-reply s r .store)
   removal-layout =
       subst⁻¹ (λ t. T (widths-fit (t .widths)) × Layout t) removal-store
-      (removal-judged-well .0, layout-store-of (s .widths) (without r (held s)) removal-few (λ q i. removal-judged-well .1 .all-fit q (from-without r (held s) i .0)) (ascending-select record-below (λ p. not (same-record r p)) (removal-judged-well .1 .ascending)))
+      (removal-judged-well .0, layout-store-of (s .widths) (without r (held s)) removal-room (λ q i. removal-judged-well .1 .all-fit q (from-without r (held s) i .0)) (ascending-select record-below (λ p. not (same-record r p)) (removal-judged-well .1 .ascending)))
 
   pub removal-held : held (removal-reply s r .store) ≡ without r (held s)
   removal-held = ap held removal-store ∙ held-store-of (s .widths) (without r (held s)) removal-few
@@ -414,7 +422,7 @@ module _ (s : Store) (r : Record) (done : removal-reply s r .answer ≡ Done) wh
   pub removal-places : (k : ℕ) → (k < rank r (held s) → getD (places-of (removal-reply s r .store)) k blank ≡ getD (places-of s) k blank) × (rank r (held s) ≤ k → k < 255 → getD (places-of (removal-reply s r .store)) k blank ≡ getD (places-of s) (suc k) blank)
   removal-places k = (λ h. ap (λ ps. getD ps k blank) removal-lowered ∙ lowered-below (places-of s) (rank r (held s)) k within h, λ h m. ap (λ ps. getD ps k blank) removal-lowered ∙ lowered-above (places-of s) (rank r (held s)) k h (omega (arith, all)))
     where
-      all : length (places-of s) ≡ 256
+      all : length (places-of s) ≡ capacity
       all = length-places (s .relations) (s .values)
 
       within : rank r (held s) < length (places-of s)

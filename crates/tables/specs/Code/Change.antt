@@ -3,14 +3,13 @@ use Prim.Native.Nat.{ℕ, suc, _+_, _-_}
 use mathlib.Core.Bool.{Bool, false, not, cond}
 use mathlib.Core.List.{List, [], _∷_, _++_}
 use lib.ListN.{take, drop}
-use lib.Dec.{leb}
 use Rattle.causes.specs.Causes.{check, first-cause, when}
 use Rattle.tables.specs.declared.Record.{Record}
 use Rattle.tables.specs.declared.Store.{Store}
 use Rattle.tables.specs.declared.Spot.{Spot}
 use Rattle.tables.specs.declared.Changed.{Changed}
 use Rattle.tables.specs.Records.{record-below, same-record, fits, blank}
-use Rattle.tables.specs.Store.{capacity, places-of, held, of-places}
+use Rattle.tables.specs.Store.{capacity, places-of, held, has-room, of-places}
 use Rattle.tables.specs.Change.{reply, rank}
 
 -- Whether r stands at its place.
@@ -33,7 +32,7 @@ lowered ps k = take k ps ++ drop (suc k) ps ++ (blank ∷ [])
 abbrev pub insertion : Store → Record → Changed
 insertion s r =
     reply
-    (first-cause (check 13 (when (not (fits (s .widths) r))) ∷ check 14 (when (found r (held s))) ∷ check 15 (when (leb capacity (s .count))) ∷ []))
+    (first-cause (check 13 (when (not (fits (s .widths) r))) ∷ check 14 (when (found r (held s))) ∷ check 15 (when (not (has-room r (held s)))) ∷ []))
     s
     (of-places (s .widths) (raised (places-of s) (rank r (held s)) r) (s .count + 1))
 

@@ -6,15 +6,15 @@ use mathlib.Core.Logic.{_↔_, Iff·trans, _⊎_, inl, inr, ⊎-elim}
 use mathlib.Core.Bool.{Bool, true, false, not, _&&_}
 use mathlib.Core.List.{List, [], _∷_, _++_, map}
 use lib.ListN.{length, take, getD}
-use lib.Dec.{T, leb}
+use lib.Dec.{T}
 use lib.Seq.{take-suc, take-all}
 use native.Mathlib.Numerals.{add-one}
 use Rattle.calculus.specs.Sets.{In, here, there}
 use Rattle.calculus.specs.Sets.Laws.{in-nil, in-cons, in-map, from-map}
 use Rattle.calculus.specs.Order.{Ascending, nothing, insert}
-use Rattle.calculus.specs.Order.Laws.{from-insert, in-insert, insert-ascending, insert-member, length-insert-le}
+use Rattle.calculus.specs.Order.Laws.{from-insert, in-insert, insert-ascending, insert-member}
 use Rattle.calculus.specs.Reflects.{Reflects, holds, fails}
-use Rattle.calculus.specs.Reflects.Laws.{reflects-T, reflects-false, reflects-ltb, reflects-leb}
+use Rattle.calculus.specs.Reflects.Laws.{reflects-T, reflects-false, reflects-ltb}
 use Rattle.calculus.specs.Satisfaction.{Fact}
 use Rattle.causes.specs.declared.Answer.{Answer}
 use Rattle.causes.specs.declared.Answer.the-variants.{Done, Refused}
@@ -25,12 +25,13 @@ use Rattle.tables.specs.declared.Store.{Store}
 use Rattle.tables.specs.declared.Changed.{Changed}
 use Rattle.tables.specs.Records.{record-below, fits, fact-of}
 use Rattle.tables.specs.Records.Laws.{record-order}
-use Rattle.tables.specs.Store.{capacity, facts, store-of, no-store, Layout}
+use Rattle.tables.specs.Store.{capacity, facts, has-room, have-room, store-of, no-store, Layout}
+use Rattle.tables.specs.Store.Room.{room-few, room-insert}
 use Rattle.tables.specs.Store.Laws.{held-store-of, facts-store-of, layout-store-of}
 use Rattle.tables.specs.Change.{is-held, reply}
 use Rattle.tables.specs.Code.Change.{insertion}
-use Rattle.tables.specs.Change.Laws.{reflects-held, put-checks, insertion-in-layout}
-use Rattle.tables.specs.Fill.{unless-refused, fill-from, fill-reply}
+use Rattle.tables.specs.Change.Laws.{reflects-held, insertion-in-layout}
+use Rattle.tables.specs.Fill.{unless-refused, fill-checks, fill-from, fill-reply}
 use Rattle.tables.specs.Code.Fill.{beginning, merged, collected, collect-all}
 
 -- ---- collecting
@@ -46,63 +47,66 @@ collect-refused n p s (r ∷ rs) = collect-refused n p s rs
 
 -- Records that a store may hold.
 record Holdable (ws : List ℕ) (ps : List Record) : Type 0 where
-  few : length ps ≤ 256
+  room : T (have-room ps)
   all-fit : (r : Record) → In r ps → T (fits ws r)
   ascending : Ascending record-below ps
 
 holdable-layout : {ws : List ℕ} {ps : List Record} → Holdable ws ps → Layout (store-of ws ps)
-holdable-layout {ws} {ps} h = layout-store-of ws ps (h .few) (h .all-fit) (h .ascending)
+holdable-layout {ws} {ps} h = layout-store-of ws ps (h .room) (h .all-fit) (h .ascending)
 
 holdable-none : (ws : List ℕ) → Holdable ws []
-holdable-none ws = record { few = omega arith; all-fit = λ r i. absurd (in-nil i); ascending = nothing }
+holdable-none ws = record { room = tt; all-fit = λ r i. absurd (in-nil i); ascending = nothing }
 
-holdable-insert : {ws : List ℕ} {ps : List Record} (r : Record) → Holdable ws ps → T (fits ws r) → length ps < 256 → Holdable ws (insert record-below r ps)
-holdable-insert {ws} {ps} r h t l = record { few = omega (arith, length-insert-le record-below r ps); all-fit = λ q i. fit q (from-insert record-below r ps q i); ascending = insert-ascending record-below record-order r (h .ascending) }
+holdable-insert : {ws : List ℕ} {ps : List Record} (r : Record) → Holdable ws ps → T (fits ws r) → T (has-room r ps) → Holdable ws (insert record-below r ps)
+holdable-insert {ws} {ps} r h t l = record { room = room-insert r ps l (h .room); all-fit = λ q i. fit q (from-insert record-below r ps q i); ascending = insert-ascending record-below record-order r (h .ascending) }
   where
     fit : (q : Record) → In q (r ∷ ps) → T (fits ws q)
     fit q (here e) = subst⁻¹ (λ x. T (fits ws x)) e t
     fit q (there i) = h .all-fit q i
 
 -- A record that filling lets through may join them; a repeat changes nothing.
-holdable-next : {ws : List ℕ} {ps : List Record} (r : Record) → Holdable ws ps → T (fits ws r) → ¬ T (not (is-held r ps) && leb capacity (length ps)) → Holdable ws (insert record-below r ps)
-holdable-next {ws} {ps} r h t n = go (reflects-held r ps) (reflects-leb 256 (length ps)) n
+holdable-next : {ws : List ℕ} {ps : List Record} (r : Record) → Holdable ws ps → T (fits ws r) → ¬ T (not (is-held r ps) && not (has-room r ps)) → Holdable ws (insert record-below r ps)
+holdable-next {ws} {ps} r h t n = go (reflects-held r ps) (reflects-T (has-room r ps)) n
   where
-    go : {c d : Bool} → Reflects (In r ps) c → Reflects (256 ≤ length ps) d → ¬ T (not c && d) → Holdable ws (insert record-below r ps)
+    go : {c d : Bool} → Reflects (In r ps) c → Reflects (T (has-room r ps)) d → ¬ T (not c && not d) → Holdable ws (insert record-below r ps)
     go (holds i) d m = subst⁻¹ (Holdable ws) (insert-member record-below record-order r (h .ascending) i) h
-    go (fails j) (holds l) m = absurd (m tt)
-    go (fails j) (fails l) m = holdable-insert r h t (omega arith)
+    go (fails j) (holds l) m = holdable-insert r h t l
+    go (fails j) (fails l) m = absurd (m tt)
 
 -- ---- collecting comes to filling
-
-insertion-holdable : {ws : List ℕ} {ps : List Record} (r : Record) → Holdable ws ps → insertion (store-of ws ps) r ≡ reply (first-cause (put-checks (store-of ws ps) r (is-held r ps))) (store-of ws ps) (store-of ws (insert record-below r ps))
-insertion-holdable {ws} {ps} r h = insertion-in-layout (store-of ws ps) r (holdable-layout h) ∙ ap (λ qs. reply (first-cause (put-checks (store-of ws ps) r (is-held r qs))) (store-of ws ps) (store-of ws (insert record-below r qs))) (held-store-of ws ps (h .few))
 
 -- The filling so far, with these records held.
 abbrev holding : List ℕ → List Record → Changed
 holding ws ps = record { answer = Done; store = store-of ws ps }
 
--- A record offered to it, by whether it fits, is held, and finds no room.
+-- A record offered to it, by whether it fits, is held, and has room.
 abbrev offered : List ℕ → List Record → Record → Bool → Bool → Bool → Changed
-offered ws ps r b c d = reply (first-cause (check 13 (when (not b)) ∷ check 14 (when c) ∷ check 15 (when d) ∷ [])) (store-of ws ps) (store-of ws (insert record-below r ps))
+offered ws ps r b c d = reply (first-cause (check 13 (when (not b)) ∷ check 14 (when c) ∷ check 15 (when (not d)) ∷ [])) (store-of ws ps) (store-of ws (insert record-below r ps))
 
-collected-offered : {ws : List ℕ} {ps : List Record} (r : Record) → Holdable ws ps → collected (holding ws ps) r ≡ merged (holding ws ps) (offered ws ps r (fits ws r) (is-held r ps) (leb capacity (length ps)) .answer) (offered ws ps r (fits ws r) (is-held r ps) (leb capacity (length ps)))
-collected-offered {ws} {ps} r h = rw (reflects-false (reflects-ltb 256 (length ps)) (λ l. within l (h .few))) (ap (λ c. merged (holding ws ps) (c .answer) c) (insertion-holdable r h))
+insertion-offered : {ws : List ℕ} {ps : List Record} (r : Record) → Holdable ws ps → insertion (store-of ws ps) r ≡ offered ws ps r (fits ws r) (is-held r ps) (has-room r ps)
+insertion-offered {ws} {ps} r h = insertion-in-layout (store-of ws ps) r (holdable-layout h) ∙ ap offering (held-store-of ws ps (room-few ps (h .room)))
   where
-    within : 256 < length ps → ¬ (length ps ≤ 256)
+    offering : List Record → Changed
+    offering qs = reply (first-cause (check 13 (when (not (fits ws r))) ∷ check 14 (when (is-held r qs)) ∷ check 15 (when (not (has-room r qs))) ∷ [])) (store-of ws ps) (store-of ws (insert record-below r qs))
+
+collected-offered : {ws : List ℕ} {ps : List Record} (r : Record) → Holdable ws ps → collected (holding ws ps) r ≡ merged (holding ws ps) (offered ws ps r (fits ws r) (is-held r ps) (has-room r ps) .answer) (offered ws ps r (fits ws r) (is-held r ps) (has-room r ps))
+collected-offered {ws} {ps} r h = rw (reflects-false (reflects-ltb capacity (length ps)) (λ l. within l (room-few ps (h .room)))) (ap (λ c. merged (holding ws ps) (c .answer) c) (insertion-offered r h))
+  where
+    within : capacity < length ps → ¬ (length ps ≤ capacity)
     within l m = omega arith
 
 fill-step : (ws : List ℕ) (ps rs : List Record) → Holdable ws ps → collect-all (holding ws ps) rs ≡ fill-from ws ps rs
 fill-step ws ps [] h = refl
-fill-step ws ps (r ∷ rs) h = ap (λ c. collect-all c rs) (collected-offered r h) ∙ go (reflects-T (fits ws r)) (reflects-held r ps) (reflects-leb 256 (length ps)) (fill-step ws ps rs h) (λ k. fill-step ws (insert record-below r ps) rs k)
+fill-step ws ps (r ∷ rs) h = ap (λ c. collect-all c rs) (collected-offered r h) ∙ go (reflects-T (fits ws r)) (reflects-held r ps) (reflects-T (has-room r ps)) (fill-step ws ps rs h) (λ k. fill-step ws (insert record-below r ps) rs k)
   where
-    go : {b c d : Bool} → Reflects (T (fits ws r)) b → Reflects (In r ps) c → Reflects (256 ≤ length ps) d
+    go : {b c d : Bool} → Reflects (T (fits ws r)) b → Reflects (In r ps) c → Reflects (T (has-room r ps)) d
         → collect-all (holding ws ps) rs ≡ fill-from ws ps rs
         → (Holdable ws (insert record-below r ps) → collect-all (holding ws (insert record-below r ps)) rs ≡ fill-from ws (insert record-below r ps) rs)
-        → collect-all (merged (holding ws ps) (offered ws ps r b c d .answer) (offered ws ps r b c d)) rs ≡ unless-refused (first-cause (check 13 (when (not b)) ∷ check 15 (when (not c && d)) ∷ [])) (fill-from ws (insert record-below r ps) rs)
+        → collect-all (merged (holding ws ps) (offered ws ps r b c d .answer) (offered ws ps r b c d)) rs ≡ unless-refused (first-cause (check 13 (when (not b)) ∷ check 15 (when (not c && not d)) ∷ [])) (fill-from ws (insert record-below r ps) rs)
     go (fails n) c d same next = collect-refused 13 0 no-store rs
     go (holds t) (holds i) d same next = same ∙ ap (λ qs. fill-from ws qs rs) (sym (insert-member record-below record-order r (h .ascending) i))
-    go (holds t) (fails n) (holds l) same next = collect-refused 15 0 no-store rs
-    go (holds t) (fails n) (fails l) same next = next (holdable-insert r h t (omega arith))
+    go (holds t) (fails n) (holds l) same next = next (holdable-insert r h t l)
+    go (holds t) (fails n) (fails l) same next = collect-refused 15 0 no-store rs
 
 pub fill-collects : (ws : List ℕ) (rs : List Record) → collect-all (beginning ws) rs ≡ fill-reply ws rs
 fill-collects ws rs = go (widths-fit ws)
@@ -119,7 +123,7 @@ refused-empty (Refused m q) c n p h e = refl
 
 fill-from-refused : (ws : List ℕ) (ps rs : List Record) (n p : ℕ) → fill-from ws ps rs .answer ≡ Refused n p → fill-from ws ps rs .store ≡ no-store
 fill-from-refused ws ps [] n p e = let z : _≡_ {A = ℕ} 0 1 = cc in absurd (omega arith)
-fill-from-refused ws ps (r ∷ rs) n p e = refused-empty (first-cause (check 13 (when (not (fits ws r))) ∷ check 15 (when (not (is-held r ps) && leb capacity (length ps))) ∷ [])) (fill-from ws (insert record-below r ps) rs) n p (fill-from-refused ws (insert record-below r ps) rs n p) e
+fill-from-refused ws ps (r ∷ rs) n p e = refused-empty (first-cause (fill-checks ws ps r)) (fill-from ws (insert record-below r ps) rs) n p (fill-from-refused ws (insert record-below r ps) rs n p) e
 
 pub fill-refused : (ws : List ℕ) (rs : List Record) (n p : ℕ) → fill-reply ws rs .answer ≡ Refused n p → fill-reply ws rs .store ≡ no-store
 fill-refused ws rs n p e = refused-empty (first-cause (check 1 (when (not (widths-fit ws))) ∷ [])) (fill-from ws [] rs) n p (fill-from-refused ws [] rs n p) e
@@ -139,13 +143,13 @@ filled : (ws : List ℕ) (ps rs : List Record) → Holdable ws ps → fill-from 
 filled ws ps [] h e = record { stored = ps; store-is = refl; holdable = h; members = λ q. (inr, ⊎-elim (λ i. absurd (in-nil i)) (λ i. i)) }
 filled ws ps (r ∷ rs) h e = subst⁻¹ (λ c. Filled ws ps (r ∷ rs) (c .store)) (u .1) (add-first (filled ws (insert record-below r ps) rs next (sym (ap (λ c. c .answer) (u .1)) ∙ e)))
   where
-    u : (first-cause (check 13 (when (not (fits ws r))) ∷ check 15 (when (not (is-held r ps) && leb capacity (length ps))) ∷ []) ≡ Done) × (fill-from ws ps (r ∷ rs) ≡ fill-from ws (insert record-below r ps) rs)
-    u = unless-done (first-cause (check 13 (when (not (fits ws r))) ∷ check 15 (when (not (is-held r ps) && leb capacity (length ps))) ∷ [])) (fill-from ws (insert record-below r ps) rs) e
+    u : (first-cause (fill-checks ws ps r) ≡ Done) × (fill-from ws ps (r ∷ rs) ≡ fill-from ws (insert record-below r ps) rs)
+    u = unless-done (first-cause (fill-checks ws ps r)) (fill-from ws (insert record-below r ps) rs) e
 
     next : Holdable ws (insert record-below r ps)
     next =
-        let c = first-passed 13 (fits ws r) (check 15 (when (not (is-held r ps) && leb capacity (length ps))) ∷ []) (u .0) in
-        holdable-next r h (c .0) (subst T (first-clear 15 (not (is-held r ps) && leb capacity (length ps)) [] (c .1) .0))
+        let c = first-passed 13 (fits ws r) (check 15 (when (not (is-held r ps) && not (has-room r ps))) ∷ []) (u .0) in
+        holdable-next r h (c .0) (subst T (first-clear 15 (not (is-held r ps) && not (has-room r ps)) [] (c .1) .0))
 
     into : (q : Record) → In q rs ⊎ In q (insert record-below r ps) → In q (r ∷ rs) ⊎ In q ps
     into q (inl i) = inl (there i)
@@ -172,7 +176,7 @@ module _ (ws : List ℕ) (rs : List Record) (done : fill-reply ws rs .answer ≡
   fill-layout = subst⁻¹ (λ t. T (widths-fit (t .widths)) × Layout t) (fill-filled .store-is) (first-passed 1 (widths-fit ws) [] (fill-worked .0) .0, holdable-layout (fill-filled .holdable))
 
   pub fill-facts : (f : Fact) → In f (facts (fill-reply ws rs .store)) ↔ ((r : Record) × In r rs × (f ≡ fact-of ws r))
-  fill-facts f = subst⁻¹ (λ d. In f d ↔ ((r : Record) × In r rs × (f ≡ fact-of ws r))) (ap facts (fill-filled .store-is) ∙ facts-store-of ws (fill-filled .stored) (fill-filled .holdable .few)) (origin, stated)
+  fill-facts f = subst⁻¹ (λ d. In f d ↔ ((r : Record) × In r rs × (f ≡ fact-of ws r))) (ap facts (fill-filled .store-is) ∙ facts-store-of ws (fill-filled .stored) (room-few (fill-filled .stored) (fill-filled .holdable .room))) (origin, stated)
     where
       origin : In f (map (fact-of ws) (fill-filled .stored)) → (r : Record) × In r rs × (f ≡ fact-of ws r)
       origin i = let q = from-map (fact-of ws) (fill-filled .stored) i in (q .0, ⊎-elim (λ j. j) (λ j. absurd (in-nil j)) (fill-filled .members (q .0) .0 (q .1)), q .2)

@@ -15,13 +15,13 @@ use Rattle.calculus.specs.Lists.{tabulate}
 use Rattle.tables.specs.declared.Record.{Record}
 use Rattle.tables.specs.declared.Store.{Store}
 use Rattle.tables.specs.Records.{values-of, blank}
-use Rattle.tables.specs.Store.{record-at, places, held, of-places, store-of, Layout}
+use Rattle.tables.specs.Store.{capacity, record-at, places, held, of-places, store-of, Layout}
 use Rattle.tables.specs.Code.Store.{set-four, set-values}
 use Rattle.tables.specs.Store.Laws.{length-places, getD-places, length-held, layout-places}
 
 -- ---- a place read
 
-module _ (rs vs : List ℕ) (n : ℕ) (h : n ≤ 256) where
+module _ (rs vs : List ℕ) (n : ℕ) (h : n ≤ capacity) where
   -- The first n places.
   pub length-first : length (take n (places rs vs)) ≡ n
   length-first = length-take-le n (places rs vs) (omega (arith, length-places rs vs))
@@ -64,7 +64,7 @@ module _ (vs : List ℕ) (a p q r s : ℕ) where
 pub length-set-values : (vs : List ℕ) (i : ℕ) (r : Record) → length (set-values vs i r) ≡ length vs
 length-set-values vs i r = simp length-set
 
-module _ (rs vs : List ℕ) (i : ℕ) (r : Record) (h : i < 256) (lr : length rs ≡ 256) (lv : length vs ≡ 1024) where
+module _ (rs vs : List ℕ) (i : ℕ) (r : Record) (h : i < capacity) (lr : length rs ≡ capacity) (lv : length vs ≡ 1024) where
   abbrev now-rs : List ℕ
   now-rs = set rs i (r .relation)
 
@@ -94,7 +94,7 @@ module _ (rs vs : List ℕ) (i : ℕ) (r : Record) (h : i < 256) (lr : length rs
         fourth = untouched (4 * j + 3) (λ e. n (omega arith)) (λ e. n (omega arith)) (λ e. n (omega arith)) (λ e. n (omega arith)) k;
       }
 
-  written-at : (j : ℕ) → j < 256 → {b : Bool} → Reflects (j ≡ i) b → getD (places now-rs now-vs) j blank ≡ getD (set (places rs vs) i r) j blank
+  written-at : (j : ℕ) → j < capacity → {b : Bool} → Reflects (j ≡ i) b → getD (places now-rs now-vs) j blank ≡ getD (set (places rs vs) i r) j blank
   written-at j l (holds e) =
       getD-places now-rs now-vs j l
       ∙ ap (record-at now-rs now-vs) e
@@ -136,7 +136,7 @@ values-tabulated (suc n) f (a ∷ b ∷ c ∷ []) l h = absurd (omega arith)
 values-tabulated (suc n) f (a ∷ b ∷ c ∷ d ∷ vs) l h =
     λ j. sym (h zero) j ++ values-tabulated n (λ i. f (suc i)) vs (omega arith) (λ i. h (suc i) ∙ four-later a b c d vs i) j
 
-module _ (rs vs : List ℕ) (lr : length rs ≡ 256) (lv : length vs ≡ 1024) where
+module _ (rs vs : List ℕ) (lr : length rs ≡ capacity) (lv : length vs ≡ 1024) where
   relations-placed : rs ≡ map (λ p. p .relation) (places rs vs)
   relations-placed =
       ext-getD
@@ -148,14 +148,14 @@ module _ (rs vs : List ℕ) (lr : length rs ≡ 256) (lv : length vs ≡ 1024) w
 
   values-placed : vs ≡ union-of values-of (places rs vs)
   unfolding places
-  values-placed = values-tabulated 256 (record-at rs vs) vs lv (λ i. refl)
+  values-placed = values-tabulated capacity (record-at rs vs) vs lv (λ i. refl)
 
   -- A store is that of its places.
   pub store-placed : (ws : List ℕ) (n : ℕ) → _≡_ {A = Store} (record { widths = ws; relations = rs; values = vs; count = n }) (of-places ws (places rs vs) n)
   store-placed ws n = λ i. record { widths = ws; relations = relations-placed i; values = values-placed i; count = n }
 
 -- A store in the layout is settled by its widths and the records it holds.
-pub layout-store : (s : Store) → length (s .relations) ≡ 256 → length (s .values) ≡ 1024 → Layout s → s ≡ store-of (s .widths) (held s)
+pub layout-store : (s : Store) → length (s .relations) ≡ capacity → length (s .values) ≡ 1024 → Layout s → s ≡ store-of (s .widths) (held s)
 layout-store s a b l = store-placed (s .relations) (s .values) a b (s .widths) (s .count) ∙ (λ i. of-places (s .widths) (layout-places s l i) (sym (length-held s (l .count-fits)) i))
 
 -- ---- a record put in between, or taken out, place by place
@@ -209,11 +209,11 @@ module _ {A : Type 0} where
   remove-at-end (y ∷ z ∷ xs) (suc k) x h = ap (λ (r : List A). y ∷ r) (remove-at-end (z ∷ xs) k x (omega arith))
 
 -- One turn of raising: what is carried goes to place i, and what stood there is carried on.
-pub insert-at-next : (rs vs : List ℕ) (i : ℕ) (r : Record) → i < 256 → insert-at (set (places rs vs) i r) (i + 1) (record-at rs vs i) ≡ insert-at (places rs vs) i r
+pub insert-at-next : (rs vs : List ℕ) (i : ℕ) (r : Record) → i < capacity → insert-at (set (places rs vs) i r) (i + 1) (record-at rs vs i) ≡ insert-at (places rs vs) i r
 insert-at-next rs vs i r h =
     rw (add-one i, ← getD-places rs vs i h) (insert-at-suc (places rs vs) i r blank (omega (arith, length-places rs vs)))
 
 -- One turn of lowering: what stands at place i + 1 goes to place i.
-pub remove-at-next : (rs vs : List ℕ) (i : ℕ) → i + 1 < 256 → remove-at (set (places rs vs) i (record-at rs vs (i + 1))) (i + 1) ≡ remove-at (places rs vs) i
+pub remove-at-next : (rs vs : List ℕ) (i : ℕ) → i + 1 < capacity → remove-at (set (places rs vs) i (record-at rs vs (i + 1))) (i + 1) ≡ remove-at (places rs vs) i
 remove-at-next rs vs i h =
     rw (← getD-places rs vs (i + 1) h, add-one i) (remove-at-suc (places rs vs) i blank (omega (arith, length-places rs vs)))

@@ -9,7 +9,7 @@ use Rattle.tables.specs.Store.{held}
 use Rattle.tables.specs.Store.Laws.{length-held}
 use Rattle.tables.specs.Code.Change.{found}
 use Rattle.tables.specs.Change.Laws.{rank-le}
-use Rattle.tables.proofs.Laws.{spot-fits, spot-place, spot-held, insertion-unfit, insertion-held, insertion-full, insertion-done}
+use Rattle.tables.proofs.Laws.{spot-fits, spot-place, spot-held, count-full, count-room, insertion-unfit, insertion-held, insertion-full, insertion-done}
 use Rattle.tables.proofs.change.insert.Statement.{statement}
 use Rattle.tables.proofs.change.insert.Tie as tie
 
@@ -31,7 +31,9 @@ absent : (c : tie.Else2) → found (c .before .before .before .before .args .r) 
 absent c = spot-held (c .before .before .before .before .args .s) (c .before .before .before .before .args .r) (c .before .before .before .locate .ensures) ∙ c .if2 .left
 
 returns-3 : tie.Need-returns-3
-returns-3 c = insertion-full (c .before .before .before .before .before .args .s) (c .before .before .before .before .before .args .r) (record-fit (c .before .before)) (absent (c .before)) (c .if3 .taken)
+returns-3 c =
+    let e = c .before .before .before .before .before in
+    insertion-full (e .args .s) (e .args .r) (record-fit (c .before .before)) (absent (c .before)) (count-full (e .args .s) (e .args .r) (e .pre) (c .if3 .taken))
 
 raise-requires : tie.Need-raise-requires
 raise-requires c κs =
@@ -40,8 +42,8 @@ raise-requires c κs =
 
 returns-4 : tie.Need-returns-4
 returns-4 c =
-    let a = c .before .before .before .before .before .before .args in let spot = c .before .before .before .before .before .locate in
-    insertion-done (a .s) (a .r) (record-fit (c .before .before .before)) (absent (c .before .before)) (c .before .if3 .left) (spot .result .place) (c .raise .result) (sym (spot-place (a .s) (a .r) (spot .ensures))) (c .raise .ensures)
+    let e = c .before .before .before .before .before .before in let a = e .args in let spot = c .before .before .before .before .before .locate in
+    insertion-done (a .s) (a .r) (record-fit (c .before .before .before)) (absent (c .before .before)) (count-room (a .s) (a .r) (e .pre) (c .before .if3 .left)) (spot .result .place) (c .raise .result) (sym (spot-place (a .s) (a .r) (spot .ensures))) (c .raise .ensures)
 
 pub insert-spec : {M : Type 1} → statement M
 insert-spec = tie.close (tie.spec locate-requires returns returns-2 returns-3 raise-requires returns-4)

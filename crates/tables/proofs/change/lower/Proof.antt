@@ -5,7 +5,7 @@ use borrow.Author.Needs.{needs}
 use mathlib.Core.Path.{_≡_, refl, _∙_}
 use lib.ListN.{length}
 use Rattle.tables.specs.Records.{blank}
-use Rattle.tables.specs.Store.{places, places-of}
+use Rattle.tables.specs.Store.{capacity, places, places-of}
 use Rattle.tables.specs.Store.Places.{remove-at}
 use Rattle.tables.specs.Code.Change.{lowered}
 use Rattle.tables.proofs.Laws.{written, lower-turn, lower-end, store-is}
@@ -15,7 +15,7 @@ use Rattle.tables.proofs.change.lower.Tie as tie
 abbrev Inv-loop : tie.InvT-loop
 Inv-loop k widths count relations₀ values₀ i₀ relations values i =
     (i ≤ 255)
-    × (length relations ≡ 256)
+    × (length relations ≡ capacity)
     × (length values ≡ 1024)
     × (remove-at (places relations values) i ≡ remove-at (places relations₀ values₀) k)
 

@@ -4,7 +4,7 @@ use native.Mathlib.Omega.{arith}
 use borrow.Author.Needs.{needs}
 use mathlib.Core.Path.{_≡_, refl, _∙_}
 use lib.ListN.{length}
-use Rattle.tables.specs.Store.{places, places-of}
+use Rattle.tables.specs.Store.{capacity, places, places-of}
 use Rattle.tables.specs.Store.Places.{insert-at}
 use Rattle.tables.specs.Code.Change.{raised}
 use Rattle.tables.proofs.Laws.{written, raise-turn, raise-end, store-is}
@@ -13,13 +13,13 @@ use Rattle.tables.proofs.change.raise.Tie as tie
 
 abbrev Inv-loop : tie.InvT-loop
 Inv-loop k widths count relations₀ values₀ carried₀ i₀ relations values carried i =
-    (i ≤ 256)
-    × (length relations ≡ 256)
+    (i ≤ capacity)
+    × (length relations ≡ capacity)
     × (length values ≡ 1024)
     × (insert-at (places relations values) i carried ≡ insert-at (places relations₀ values₀) k carried₀)
 
 abbrev μ-loop : tie.MeasureT-loop
-μ-loop k widths count relations₀ values₀ carried₀ i₀ relations values carried i = 256 - i
+μ-loop k widths count relations₀ values₀ carried₀ i₀ relations values carried i = capacity - i
 
 loop-holds : tie.Need-loop-holds Inv-loop μ-loop
 loop-holds c = (search needs, search needs, search needs, refl)

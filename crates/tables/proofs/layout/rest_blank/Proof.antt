@@ -7,17 +7,17 @@ use mathlib.Core.Path.{_≡_, refl, sym, _∙_}
 use lib.ListN.{drop}
 use Rattle.calculus.specs.Sets.{all-of}
 use Rattle.tables.specs.Records.{blank, is-blank}
-use Rattle.tables.specs.Store.{places}
+use Rattle.tables.specs.Store.{capacity, places}
 use Rattle.tables.specs.Store.Laws.{length-places, getD-places}
 use Rattle.calculus.specs.Lists.Laws.{tested, all-stops, all-goes, all-ends}
 use Rattle.tables.proofs.layout.rest_blank.Statement.{statement}
 use Rattle.tables.proofs.layout.rest_blank.Tie as tie
 
 abbrev Inv-loop : tie.InvT-loop
-Inv-loop relations values count blank i₀ i = (i ≤ 256) × (all-of is-blank (drop count (places relations values)) ≡ all-of is-blank (drop i (places relations values)))
+Inv-loop relations values count blank i₀ i = (i ≤ capacity) × (all-of is-blank (drop count (places relations values)) ≡ all-of is-blank (drop i (places relations values)))
 
 abbrev μ-loop : tie.MeasureT-loop
-μ-loop relations values count blank i₀ i = 256 - i
+μ-loop relations values count blank i₀ i = capacity - i
 
 loop-holds : tie.Need-loop-holds Inv-loop μ-loop
 loop-holds c = (c .pre, refl)
