@@ -2,7 +2,7 @@
 use Prim.Native.Nat.{ℕ, _+_}
 use mathlib.Core.Path.{_≡_}
 use mathlib.Core.Bool.{Bool, true, cond}
-use mathlib.Core.List.{List, [], _∷_, _++_}
+use mathlib.Core.List.{List, [], _∷_, _++_, map}
 use mathlib.Core.Option.{some}
 use lib.ListN.{length, drop}
 use lib.Dec.{eqb}
@@ -28,7 +28,7 @@ pub mod Laws
 
 -- ---- runs
 
--- What whoever opened a list keeps of it: the bytes of its query, and the list as its opening or its own last call left it.
+-- What the driver of a list keeps: the bytes of its query, and the list as its opening or its own last call left it.
 pub record Driver : Type 0 where
   pub bytes : List ℕ
   pub view : View
@@ -114,8 +114,8 @@ pub record Represents (l : Ledger) (s : Store) (d : Family Driver) : Type 0 wher
 
 -- ---- one list of a run
 
--- Whether the list i was found anew after the last change: it was opened, or a call of its own was accepted, and since then no call of another list was. At first
--- it was or not as b says.
+-- Whether the list i was found anew since the last change: no call of another list was accepted since it was last opened or a call of its own was last accepted. b
+-- says whether it was at the start.
 abbrev pub up-to-date : ℕ → Bool → List Event → Bool
 up-to-date i b [] = b
 up-to-date i b (opened j bs v ∷ es) = up-to-date i (cond (eqb i j) true b) es
@@ -127,7 +127,7 @@ pub record Tally : Type 0 where
   pub joined : ℕ
   pub left : ℕ
 
--- With what an opening tells, and with what the reply to a call tells.
+-- The tally after an opening, and after the reply to a call.
 abbrev pub first-tally : View → Tally
 first-tally v = record { opening = length (rows-in v); joined = 0; left = 0 }
 
@@ -143,6 +143,21 @@ tally i n (called j c r ∷ es) = tally i (cond (eqb i j) (next-tally n (r .0)) 
 abbrev pub no-tally : Tally
 no-tally = record { opening = 0; joined = 0; left = 0 }
 
--- Every event is of the list i, as with document 01's tool, which has one.
+-- Every event is of the list i.
 abbrev pub Alone : ℕ → List Event → Type 0
 Alone i es = (e : Event) → In e es → index e ≡ i
+
+-- ---- document 01's run: an accepted opening, then the calls of that list
+
+-- Calls of the list i, with their replies.
+abbrev pub calls-of : ℕ → List (Call × Reply) → List Event
+calls-of i ps = map (λ p. called i (p .0) (p .1)) ps
+
+-- How many rows the replies told as joined, and how many as left.
+abbrev pub joined-in : List (Call × Reply) → ℕ
+joined-in [] = 0
+joined-in (p ∷ ps) = p .1 .0 .joined + joined-in ps
+
+abbrev pub left-in : List (Call × Reply) → ℕ
+left-in [] = 0
+left-in (p ∷ ps) = p .1 .0 .left + left-in ps

@@ -1,4 +1,4 @@
--- The store: document 01, "Tables and records", and causes 1 and 2. Definitions only; the laws are in Store/.
+-- The store: document 01, "Tables and records", and causes 1, 2 and 15. Definitions only; the laws are in Store/.
 use Prim.Native.Nat.{ℕ, _+_, _*_, _≤_, _-_}
 use mathlib.Core.Path.{_≡_}
 use mathlib.Core.Bool.{Bool, true, not, _&&_}

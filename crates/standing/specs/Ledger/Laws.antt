@@ -80,6 +80,15 @@ module _ (q : Query) where
 
 -- ---- it is unique
 
+-- There is one before the first opening.
+pub begins-unique : (s : Store) (l m : Ledger) → Begins s l → Begins s m → l ≡ m
+begins-unique s l m a b =
+    λ i. record {
+      widths = (a .widths-are ∙ sym (b .widths-are)) i;
+      records = (a .records-are ∙ sym (b .records-are)) i;
+      lists = (a .lists-are ∙ sym (b .lists-are)) i;
+    }
+
 -- The account of an opening.
 abbrev pub opening-account : Query → List ℕ → List Record → Account
 opening-account q ws rs =

@@ -2,6 +2,7 @@
 -- when infinitely many rows satisfy the query over the records then held, else it holds all such rows and no other; each change reports exactly the rows that joined
 -- and left; and the counts add up. A run of one list leaves it up to date.
 use Prim.Native.Nat.{ℕ, _+_}
+use native.Mathlib.Omega.{arith}
 use mathlib.Core.Path.{_≡_, refl, sym, ap, subst, subst⁻¹, subst₂, _∙_}
 use mathlib.Core.Logic.{_↔_}
 use mathlib.Core.Bool.{Bool, true, false, cond}
@@ -10,6 +11,7 @@ use mathlib.Core.Option.{Option, none, some, Option·none-ne-some}
 use lib.ListN.{length}
 use lib.Dec.{T, eqb}
 use Rattle.calculus.specs.Sets.{In, here, there}
+use Rattle.calculus.specs.Sets.Laws.{in-nil}
 use Rattle.calculus.specs.Reflects.{Reflects, holds, fails}
 use Rattle.calculus.specs.Reflects.Laws.{reflects-eqb, reflects-true}
 use Rattle.calculus.specs.Order.{Ascending}
@@ -24,6 +26,7 @@ use Rattle.query.specs.declared.Query.{Query}
 use Rattle.query.specs.Reading.{pool, formula, read-of}
 use Rattle.answer.specs.Reply.{result-of, query-read, EndlessOver, RightOver}
 use Rattle.standing.specs.declared.View.{View}
+use Rattle.standing.specs.declared.Change.{Change}
 use Rattle.standing.specs.Families.{Family, no-list, with-list, Every, Paired, neither, both}
 use Rattle.standing.specs.Families.Laws.{with-own, one-list, every-none, paired-with, paired-at}
 use Rattle.standing.specs.View.{rows-in, kept, mark}
@@ -31,7 +34,7 @@ use Rattle.standing.specs.Change.{change-of, fronted}
 use Rattle.standing.specs.Change.Calls.{StoreKept, change-store, change-worked}
 use Rattle.standing.specs.Ledger.{Account, Ledger, Call, Report, Difference, Begins, Opens, keeping, Enters, Accounts, closed, opens, enter}
 use Rattle.standing.specs.Ledger.Laws.{right-among, opening-account, opens-is, opening-opens, entry, enters-reports}
-use Rattle.standing.specs.Runs.{Driver, driver, Reply, Event, opened, called, fed, OpensWith, Ensured, Run, ended, open-then, call-then, Agrees, Agree, none as no-event, past, also, IsListOf, Represents, up-to-date, tally, no-tally, Alone}
+use Rattle.standing.specs.Runs.{Driver, driver, Reply, Event, opened, called, fed, OpensWith, Ensured, Run, ended, open-then, call-then, Agrees, Agree, none as no-event, past, also, IsListOf, Represents, up-to-date, Tally, first-tally, next-tally, tally, no-tally, index, Alone, calls-of, joined-in, left-in}
 use Rattle.standing.specs.Runs.Steps.{ledger-of, Content, opened-content, account-of, list-of, State, Stepped, rows-are, is-list, step, step-enters, step-is, opened-is, opened-judged, opened-state}
 use Rattle.standing.specs.Runs.Lists.{Holds, unopened, held-open, account, own-stepped, own-enters, keeps-on}
 
@@ -363,3 +366,69 @@ module _ (s t : Store) (d : Family Driver) (es : List Event) (run : Run s no-lis
 
   pub alone-rows : ¬ EndlessOver t (query-read t (x .bytes)) → RightOver t (query-read t (x .bytes)) (listed (rows-in (x .view)))
   alone-rows = run-rows s t d es run i x opened-as alone-fresh
+
+-- ---- document 01's run
+
+module _ (i : ℕ) where
+  -- What the calls told, beside what was told before them.
+  tally-calls : (ps : List (Call × Reply)) (n : Tally) → tally i n (calls-of i ps) ≡ record { opening = n .opening; joined = n .joined + joined-in ps; left = n .left + left-in ps }
+  tally-calls [] n =
+      let j : n .joined ≡ n .joined + 0 = omega arith in
+      let m : n .left ≡ n .left + 0 = omega arith in
+      λ k. record { opening = n .opening; joined = j k; left = m k }
+  tally-calls (p ∷ ps) n =
+      let c : Change = p .1 .0 in
+      let j : n .joined + c .joined + joined-in ps ≡ n .joined + (c .joined + joined-in ps) = omega arith in
+      let m : n .left + c .left + left-in ps ≡ n .left + (c .left + left-in ps) = omega arith in
+      ap (λ own. tally i (cond own (next-tally n c) n) (calls-of i ps)) (reflects-true (reflects-eqb i i) refl)
+      ∙ tally-calls ps (next-tally n c)
+      ∙ (λ k. record { opening = n .opening; joined = j k; left = m k })
+
+  calls-alone : (ps : List (Call × Reply)) → Alone i (calls-of i ps)
+  calls-alone [] a m = absurd (in-nil m)
+  calls-alone (p ∷ ps) a (here is) = ap index is
+  calls-alone (p ∷ ps) a (there m) = calls-alone ps a m
+
+  run-alone : (bs : List ℕ) (v : View) (ps : List (Call × Reply)) → Alone i (opened i bs v ∷ calls-of i ps)
+  run-alone bs v ps a (here is) = ap index is
+  run-alone bs v ps a (there m) = calls-alone ps a m
+
+  -- The calls leave the list open for the same query, and the widths.
+  stays-open : {s t : Store} {f d : Family Driver} (bs : List ℕ) (ps : List (Call × Reply)) → Run s f (calls-of i ps) t d → judgement s ≡ Done → (v : View) → f i ≡ some (driver bs v) → (w : View) × (d i ≡ some (driver bs w)) × (t .widths ≡ s .widths)
+  stays-open bs [] ended judged v at = (v, at, refl)
+  stays-open {s} {f = f} bs (p ∷ ps) (call-then {x = x} {c = c} {r = r} e made run) judged v at =
+      let same : x ≡ driver bs v = one-list f i e at in
+      let kept = subst⁻¹ (StoreKept s) made (change-store (c .action) s (x .view) (x .bytes) (c .first) (c .second) judged) in
+      let rest = stays-open bs ps run (kept .0) (r .0 .view) (with-own i (driver (x .bytes) (r .0 .view)) f ∙ ap (λ y. some (driver (y .bytes) (r .0 .view))) same) in
+      (rest .0, rest .1, rest .2 ∙ kept .1)
+
+module _ (s t : Store) (d : Family Driver) (i : ℕ) (bs : List ℕ) (v : View) (ps : List (Call × Reply)) (run : Run s no-list (opened i bs v ∷ calls-of i ps) t d) where
+  left-open : Run s no-list (opened i bs v ∷ calls-of i ps) t d → (w : View) × (d i ≡ some (driver bs w)) × (t .widths ≡ s .widths)
+  left-open (open-then made rest) = stays-open i bs ps rest (opened-judged bs s v made) v (with-own i (driver bs v) no-list)
+
+  -- The list is open at the end, for the query of the opening.
+  pub base-list : (w : View) × (d i ≡ some (driver bs w))
+  base-list = (left-open run .0, left-open run .1)
+
+  base-query : query-read t bs ≡ query-read s bs
+  base-query = ap (λ ws. read-of ws bs .query) (left-open run .2)
+
+  module _ (w : View) (open-as : d i ≡ some (driver bs w)) where
+    -- Endless exactly when infinitely many rows satisfy the query over the records then held;
+    pub base-endless : Reflects (EndlessOver t (query-read s bs)) (w .endless)
+    base-endless = subst (λ q. Reflects (EndlessOver t q) (w .endless)) base-query (alone-endless s t d (opened i bs v ∷ calls-of i ps) run i (run-alone i bs v ps) (driver bs w) open-as)
+
+    -- else it holds all rows that satisfy the query and no other, each once, ascending.
+    pub base-rows : ¬ EndlessOver t (query-read s bs) → RightOver t (query-read s bs) (listed (rows-in w))
+    base-rows =
+        subst (λ q. ¬ EndlessOver t q → RightOver t q (listed (rows-in w))) base-query
+        (alone-rows s t d (opened i bs v ∷ calls-of i ps) run i (run-alone i bs v ps) (driver bs w) open-as)
+
+    -- Rows at the opening and those told as joined are as many as those told as left and the rows held.
+    pub base-adds-up : length (rows-in v) + joined-in ps ≡ left-in ps + length (rows-in w)
+    base-adds-up =
+        let all =
+        subst (λ n. n .opening + n .joined ≡ n .left + length (rows-in w))
+        (ap (λ own. tally i (cond own (first-tally v) no-tally) (calls-of i ps)) (reflects-true (reflects-eqb i i) refl) ∙ tally-calls i ps (first-tally v))
+        (run-adds-up s t d (opened i bs v ∷ calls-of i ps) run i (driver bs w) open-as) in
+        omega (arith, all)

@@ -1,6 +1,6 @@
 -- Laws of room: records that have room are no more than the places, a record that has room may join them, and any may leave. Beside these laws only
--- three know that the number of records decides it: those of the code's test (`count-full` and `count-room` in the proofs' Laws.antt), and the one beside the ledger's
--- words (`reflects-full` in standing's Ledger/Ties). `few-room` is so only while nothing else decides it.
+-- four know that the number of records decides it: those of the code's tests (`count-full`, `count-room` and `counted-room` in the proofs' Laws.antt), and the one
+-- beside the ledger's words (`reflects-full` in standing's Ledger/Ties). `few-room` is so only while nothing else decides it.
 use Prim.Native.Nat.{_<_, _≤_}
 use native.Mathlib.Omega.{arith}
 use mathlib.Core.Bool.{Bool, not}
