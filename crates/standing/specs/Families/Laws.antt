@@ -51,7 +51,3 @@ module _ {A B : Type 0} (P : A → B → Type 0) where
   pub paired-at : {o : Option A} {u : Option B} → Paired P o u → (y : B) → u ≡ some y → (x : A) × (o ≡ some x) × P x y
   paired-at neither y e = absurd (Option·none-ne-some y e)
   paired-at (both {x = x} {y = z} p) y e = (x, refl, subst (P x) (Option·some-injective z y e) p)
-
-pub paired-map : {A B : Type 0} {P Q : A → B → Type 0} → ((x : A) (y : B) → P x y → Q x y) → {o : Option A} {u : Option B} → Paired P o u → Paired Q o u
-paired-map h neither = neither
-paired-map h (both {x = x} {y = y} p) = both (h x y p)

@@ -136,10 +136,6 @@ pub after-members : (action : Action) (records : List Record) (r : Record) → I
 after-members (put t) records r = (λ i. ⊎-elim inr inl (in-cons (from-insert record-below t records r i)), ⊎-elim (λ i. in-insert record-below record-order t records r (there i)) (λ e. in-insert record-below record-order t records r (here e)))
 after-members (removal t) records r = (λ i. let h = from-without t records i in (h .0, λ e. h .1 (sym e)), λ h. in-without (h .0) (λ e. h .1 (sym e)))
 
--- Of ascending records, the ascending list that has them is the engine's.
-pub after-is : (action : Action) {records rs : List Record} → Ascending record-below records → Ascending record-below rs → ((r : Record) → In r rs ↔ Among action records r) → rs ≡ records-after action records
-after-is action {records} {rs} a b m = ascending-unique record-below record-order b (after-ascends action a) (λ r. Iff·trans (m r) (Iff·symm (after-members action records r)))
-
 -- ---- rows joined and left
 
 pub difference-unique : (xs ys : List Row) {rows others : List Row} → Difference xs ys rows → Difference xs ys others → rows ≡ others
