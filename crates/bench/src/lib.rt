@@ -1,5 +1,7 @@
 // The answers call, and a put or removal with its standing list, as the benchmark makes them from C: over the arrays of a store and of a list, with one number
 // returned.
+#![tactic(auto)]
+
 ghost use Rattle.std.specs.Prelude.{◌≡◌, ◌<◌};
 ghost use Rattle.query.specs.Reading.{max_nodes};
 ghost use Rattle.answer.specs.Reply.{found_of};

@@ -1,4 +1,6 @@
 // Document 01's table of refusals: what a call answers, and the cause that stores and queries share (1).
+#![tactic(auto)]
+
 ghost use Rattle.std.specs.Prelude.{◌≡◌};
 ghost use Rattle.causes.specs.Causes.{widths_fit};
 
@@ -9,7 +11,7 @@ pub const RELATIONS: usize = 16;
 pub const MAX_WIDTH: u8 = 4;
 
 // A call was worked on, or declined: the cause's number in document 01's table, and its place.
-#[derive(Drop)]
+#[derive(Clone, Copy)]
 pub enum Answer {
     Done,
     Refused(u8, u64),

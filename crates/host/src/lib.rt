@@ -1,5 +1,7 @@
 // The host's entries: the verdict and the answers over a packed input, and the query of a rule's text, with numbers and byte runs only. include/palmrummy.h is
 // their C side: the layout of every byte written, and the meaning of every number returned.
+#![tactic(auto)]
+
 mod bytes;
 
 ghost use Rattle.std.specs.Prelude.{◌≡◌, ◌<◌};

@@ -1,4 +1,6 @@
 // The lines that the list program prints for a packed input: from the input's bytes to the output's. Everything that decides what is printed is here.
+#![tactic(auto)]
+
 mod text;
 
 ghost use Rattle.std.specs.Prelude.{◌≡◌, ◌∷◌, [], ◌+◌, ◌*◌, ◌≤◌, ◌<◌, length, take};

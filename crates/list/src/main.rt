@@ -1,6 +1,8 @@
 // The list program: reads a packed input on standard input, and writes its lines on standard output. What is written is decided by `lines::print` alone.
 //
 // Where standard input can't be read, or standard output can't be written, a line on standard error says so; after a failed read nothing is printed.
+#![tactic(auto)]
+
 use lines::LINES;
 
 // One byte more than the longest input, so that a longer one is told by its length.

@@ -3,6 +3,8 @@
 // The packed input has sixteen width bytes, a record count of 2 bytes, the records of 17 bytes each (a relation, four values of 4 bytes), all high byte first,
 // and then the query, which is the rest of it. It is refused 2 where it ends before the query or is over 8,192 bytes; then the query's causes run, then those of
 // the records, which fill a store in any order, and then those of the answer.
+#![tactic(auto)]
+
 mod part;
 
 ghost use Rattle.std.specs.Prelude.{◌≡◌, replicate};
@@ -26,7 +28,7 @@ pub const RECORD: usize = 17;
 pub const ROOM: usize = 4096;
 
 // What an input holds: the store of its records, and its query with the columns. A refusal comes with nothing else.
-#[derive(Drop)]
+#[derive(Clone, Copy)]
 pub struct Input {
     pub answer: Answer,
     pub store: Store,
@@ -35,7 +37,7 @@ pub struct Input {
 }
 
 // An input as judged: the store of its records, and the verdict on its query, with the query's form and columns; or the verdict's refusal, and no records.
-#[derive(Drop)]
+#[derive(Clone, Copy)]
 pub struct Assessment {
     pub store: Store,
     pub verdict: Verdict,
@@ -43,7 +45,7 @@ pub struct Assessment {
 
 // What the list of an input's query is: whether the query is safe-range, its columns, and whether infinitely many rows satisfy it, or how many do. A refusal
 // comes with nothing else.
-#[derive(Drop)]
+#[derive(Clone, Copy)]
 pub struct Listing {
     pub answer: Answer,
     pub safe: bool,

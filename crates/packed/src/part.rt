@@ -11,14 +11,14 @@ use causes::RELATIONS;
 use tables::{Changed, Record};
 
 // The head of an input: the sixteen widths, and the number of records.
-#[derive(Drop)]
+#[derive(Clone, Copy)]
 pub struct Head {
     pub widths: [u8; RELATIONS],
     pub count: usize,
 }
 
 // How far an input reaches: whether it is whole, and then its head.
-#[derive(Drop)]
+#[derive(Clone, Copy)]
 pub struct Extent {
     pub whole: bool,
     pub head: Head,

@@ -4,6 +4,8 @@
 // are a tree: the last one is the root, and a child's number is below its parent's. The reader judges any bytes (causes 1 and 3 to 10) and hands back the
 // constants and nodes of those that it accepts, with the query's columns. The crates above look at a node, and write one, by `node` alone. They write a query as
 // bytes by `write`.
+#![tactic(auto)]
+
 mod fault;
 mod free;
 mod judge;
@@ -28,7 +30,7 @@ pub const COLUMNS: usize = 4;
 pub const VARIABLES: u8 = 16;
 
 // An accepted query: its constants and nodes, with zeros in the places past the counts.
-#[derive(Drop)]
+#[derive(Clone, Copy)]
 pub struct Query {
     pub constants: [u32; CONSTANTS],
     pub constant_count: usize,
@@ -37,14 +39,14 @@ pub struct Query {
 }
 
 // The free variables of a query as read, ascending, with zeros in the places past the count.
-#[derive(Drop)]
+#[derive(Clone, Copy)]
 pub struct Columns {
     pub variables: [u8; COLUMNS],
     pub count: usize,
 }
 
 // What reading answers. A refusal comes with no nodes and no columns.
-#[derive(Drop)]
+#[derive(Clone, Copy)]
 pub struct Reading {
     pub answer: Answer,
     pub query: Query,

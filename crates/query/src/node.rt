@@ -14,7 +14,7 @@ pub const TRUE: u32 = 268435456;
 
 // The fields of a node: `truth` is its truth bit, `count` and `terms` are a record's, `term` is an equality's. A node has those of its kind; the others are what
 // stands at their bits.
-#[derive(Drop)]
+#[derive(Clone, Copy)]
 pub struct Node {
     pub kind: u32,
     pub truth: u32,

@@ -4,6 +4,8 @@
 // Where standard input can't be read or is over a mebibyte, or standard output can't be written, a line on standard error says so; nothing is printed where the
 // text wasn't read whole. An accepted rule has under 2,000 bytes, so no text of over a mebibyte can be packed. But where it leaves the grammar is not known before
 // it is read whole, and a wrong place is worse than none.
+#![tactic(auto)]
+
 ghost use Rattle.std.specs.Prelude.{◌≡◌, length};
 
 use rules::PACKED;

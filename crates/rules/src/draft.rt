@@ -17,7 +17,7 @@ const TERMS: usize = 4;
 const HIGHEST: u64 = 15;
 
 // The head's variables, and the least number that the next one can have.
-#[derive(Drop)]
+#[derive(Clone, Copy)]
 pub struct Head {
     pub variables: [u8; TERMS],
     pub count: usize,
@@ -27,7 +27,7 @@ pub struct Head {
 
 // The goals. Of the goal being read: whether a not stands before it, whether an X stands before the number, its relation or the variable before its =, and the 5
 // bits of each term. Of all goals: which variables they have, and how many constants and nodes.
-#[derive(Drop)]
+#[derive(Clone, Copy)]
 pub struct Body {
     pub denied: bool,
     pub named: bool,

@@ -3,6 +3,8 @@
 //
 // The text is read byte by byte by an automaton (`mode`, `scan`), which keeps the head and the goals as constants and nodes (`draft`). At the full stop the
 // quantifiers are added and the query is packed (`finish`). Text may be of any length and any bytes. What the program `rule` prints is written by `output`.
+#![tactic(auto)]
+
 mod draft;
 mod finish;
 mod mode;
@@ -19,7 +21,7 @@ use query::{CONSTANTS, NODES, Query, Reading};
 pub const PACKED: usize = 322;
 
 // What packing a rule answers: the query by value, and its packed bytes, with zeros in the places past their number. A refusal comes with nothing.
-#[derive(Drop)]
+#[derive(Clone, Copy)]
 pub struct Packing {
     pub answer: Answer,
     pub query: Query,

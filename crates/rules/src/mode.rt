@@ -34,7 +34,7 @@ pub const WITHIN: u32 = 1;
 
 pub const DONE: u32 = 2;
 
-#[derive(Drop)]
+#[derive(Clone, Copy)]
 pub enum Mode {
     // No rule goes on so.
     Out,

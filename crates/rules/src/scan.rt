@@ -10,7 +10,7 @@ use crate::{draft, mode};
 use query::{CONSTANTS, NODES};
 
 // Where the reader stands: its mode, the number being read, or 0, and whether a digit of it has been read.
-#[derive(Drop)]
+#[derive(Clone, Copy)]
 pub struct Reader {
     pub mode: Mode,
     pub number: u64,

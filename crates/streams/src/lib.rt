@@ -1,11 +1,13 @@
 // Standard input, read to its end into a lent space. For the programs, which hand what was read to a function that decides what is printed.
+#![tactic(auto)]
+
 ghost use Rattle.std.specs.Prelude.{◌≤◌, length};
 
 // The most reads that are made: far more than there are bytes in the space of any program, also where signals interrupt some.
 const READS: usize = 10000000;
 
 // The bytes that were read; whether the input ended there or the space is full, so that no more is to come; and whether a read failed.
-#[derive(Drop)]
+#[derive(Clone, Copy)]
 pub struct Progress {
     pub bytes: usize,
     pub ended: bool,

@@ -2,6 +2,8 @@
 //
 // A store is a value. Record i stands in relations[i] and values[4 i .. 4 i + 3]. The first `count` records are those held, strictly ascending; every
 // place past the count is zero. A call judges what it is given (layout.rt), then changes one record (change.rt) or fills a store (fill.rt).
+#![tactic(auto)]
+
 pub mod change;
 pub mod fill;
 pub mod layout;
@@ -16,7 +18,7 @@ pub const PLACES: usize = 256;
 pub const VALUES: usize = 4 * PLACES;
 
 // A relation and four values; those past the relation's width are zero.
-#[derive(Drop)]
+#[derive(Clone, Copy)]
 pub struct Record {
     pub relation: u8,
     pub first: u32,
@@ -25,7 +27,7 @@ pub struct Record {
     pub fourth: u32,
 }
 
-#[derive(Drop)]
+#[derive(Clone, Copy)]
 pub struct Store {
     pub widths: [u8; RELATIONS],
     pub relations: [u8; PLACES],
@@ -34,7 +36,7 @@ pub struct Store {
 }
 
 // Where a record stands in a store, or would stand: whether it fits the widths, its place, and whether it is held there.
-#[derive(Drop)]
+#[derive(Clone, Copy)]
 pub struct Spot {
     pub fits: bool,
     pub place: usize,
@@ -42,7 +44,7 @@ pub struct Spot {
 }
 
 // What a change answers, and the store after it.
-#[derive(Drop)]
+#[derive(Clone, Copy)]
 pub struct Changed {
     pub answer: Answer,
     pub store: Store,

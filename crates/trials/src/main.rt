@@ -12,6 +12,8 @@
 //   list if it is handed in, and the calls. A list is the number of its columns (2 bytes), four variables (1 byte each), the number of its rows and of those that
 //   follow (2 bytes each), the endless mark (1 byte), three counts (8 bytes each), and the rows, 16 bytes each; places that don't follow are zero. A call is p or
 //   r, a record of 17 bytes, and the lengths of the two buffers (2 bytes each, at most 8,192).
+#![tactic(auto)]
+
 mod lend;
 mod runs;
 

@@ -2,6 +2,8 @@
 //
 // A query's way: read (the crate `query`), propagated into its form (`form`), then the form's nodes judged from the leaves: which variables each of them
 // generates, plainly and as denied (`generate`), and from which leaf nodes (`source`). The reports are sets of nodes and variables as numbers (`bits`).
+#![tactic(auto)]
+
 pub mod bits;
 pub mod form;
 mod generate;
@@ -19,7 +21,7 @@ use query::{COLUMNS, Columns, Query};
 
 // What the verdict answers. Generators are numbers of nodes of the form, node 0 the highest of 64 bits; `ungenerated` has variable 0 as the highest of 16,
 // `unranged` node 0 of the form as the highest of 64. A refusal comes with nothing else.
-#[derive(Drop)]
+#[derive(Clone, Copy)]
 pub struct Verdict {
     pub answer: Answer,
     pub form: Query,

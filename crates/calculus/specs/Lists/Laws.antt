@@ -114,6 +114,7 @@ module _ {A : Type 0} (p : A → Bool) where
   pub any-of-false : (xs : List A) → any_of p xs ≡ false → (x : A) → In x xs → p x ≡ false
   any-of-false (y ∷ xs) e x (here q) = rw q (or-fails (p y) (any_of p xs) e).0
   any-of-false (y ∷ xs) e x (there i) = any-of-false xs (or-fails (p y) (any_of p xs) e).1 x i
+  any-of-false [] e x x4 = elim x4 [ ]
 
   -- A test that every element passes, and what stands for a missing one.
   pub all-of-getD : (xs : List A) (d : A) → T (all_of p xs) → T (p d) → (i : ℕ) → T (p (get_or xs i d))
@@ -127,10 +128,12 @@ module _ {A : Type 0} where
   pub from-tabulate : (f : ℕ → A) (n : ℕ) {x : A} → In x (tabulate f n) → (i : ℕ) × (i < n) × (x ≡ f i)
   from-tabulate f (suc n) (here e) = (0, omega arith, e)
   from-tabulate f (suc n) (there i) = let r = from-tabulate (λ j. f (suc j)) n i in (suc r.0, suc-le-suc r.1, r.2)
+  from-tabulate f zero x3 = elim x3 [ ]
 
   pub place_of : (d : A) {x : A} (xs : List A) → In x xs → (i : ℕ) × (i < length xs) × (x ≡ get_or xs i d)
   place_of d (y ∷ xs) (here e) = (0, omega arith, e)
   place_of d (y ∷ xs) (there i) = let r = place_of d xs i in (suc r.0, suc-le-suc r.1, r.2)
+  place_of d [] x'' = elim x'' [ ]
 
   -- The element at a place below n is one of the first n.
   pub in_take : (d : A) (xs : List A) (n c : ℕ) → c < n → c < length xs → In (get_or xs c d) (take n xs)
@@ -142,6 +145,8 @@ module _ {A : Type 0} where
   pub from-take : {x : A} (n : ℕ) (xs : List A) → In x (take n xs) → In x xs
   from-take (suc n) (y ∷ xs) (here e) = here e
   from-take (suc n) (y ∷ xs) (there i) = there (from-take n xs i)
+  from-take zero xs x'' = elim x'' [ ]
+  from-take (suc n) [] x4 = elim x4 [ ]
 
 -- ---- a list that is filled from the front, and one that is known by its elements
 
@@ -236,3 +241,4 @@ module _ {A : Type 0} (n : ℕ) (z : A) where
 pub from-replicate : {A : Type 0} (n : ℕ) (r : A) {w : A} → In w (replicate n r) → w ≡ r
 from-replicate (suc n) r (here e) = e
 from-replicate (suc n) r (there i) = from-replicate n r i
+from-replicate {A = A} zero r {w = w} x' = elim x' [ ]

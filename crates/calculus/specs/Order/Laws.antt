@@ -3,7 +3,7 @@
 use Rattle.std.specs.Prelude.{ℕ, zero, suc, ◌+◌, ◌-◌, ◌<◌, ◌≤◌, ◌≡◌, refl, ◌↔◌, ◌⊎◌, ◌≢◌, Bool, true, false, not, ◌&&◌, ◌||◌, cond, List, [], ◌∷◌, length, get_or, drop, T, eqb, ltb}
 use Rattle.std.proofs.Common.{zero-le, suc-le-suc, lt_irrefl, lt_trans, le_antisymm, arith, sym, ap, subst, ◌∙◌, inl, inr, length-drop, take_all, drop-cons, le-ltb, eq-eqb, ne_eqb}
 use Rattle.std.proofs.Math.Path.{subst⁻¹}
-use Rattle.std.proofs.Math.Logic.{Iff·rfl, Iff·trans}
+use Rattle.std.proofs.Math.Logic.Iff
 use Rattle.std.proofs.Math.Bool.{and-true, and-false, or-false}
 use Rattle.std.proofs.lemmas.Bool.{not-true, not-false}
 use Rattle.calculus.specs.Sets.{In, here, there, ◌⊆◌, select, same_list}
@@ -125,8 +125,8 @@ module _ {A : Type 0} (below : A → A → Bool) (order : StrictOrder below) whe
   insert-members x ys z = (from-insert below x ys z, in_insert x ys z)
 
   pub sort-members : (xs : List A) (x : A) → In x (sort below xs) ↔ In x xs
-  sort-members [] x = Iff·rfl
-  sort-members (y ∷ xs) x = Iff·trans (insert-members y (sort below xs) x) (same-cons y (sort-members xs) x)
+  sort-members [] x = Iff.rfl
+  sort-members (y ∷ xs) x = Iff.trans (insert-members y (sort below xs) x) (same-cons y (sort-members xs) x)
 
   pub insert-ascending : (x : A) {ys : List A} → Ascending below ys → Ascending below (insert below x ys)
   insert-ascending x nothing = before (λ y i. absurd (in-nil i)) nothing

@@ -2,7 +2,7 @@
 use Rattle.std.specs.Prelude.{ℕ, ◌+◌, ◌≤◌, ◌≡◌, refl, ◌↔◌, Bool, true, false, not, cond, List, [], ◌∷◌, ◌++◌, T, eqb}
 use Rattle.std.proofs.Common.{arith, sym, ap, subst, ◌∙◌, inl, inr, ⊎_elim}
 use Rattle.std.proofs.Math.Path.{subst⁻¹}
-use Rattle.std.proofs.Math.Logic.{Iff·rfl, Iff·trans, Iff·not, Iff·and}
+use Rattle.std.proofs.Math.Logic.Iff
 use Rattle.calculus.specs.Sets.{In, ◌⊆◌, union_of}
 use Rattle.calculus.specs.Sets.Laws.{in-nil, in_left, in_right, in-append-map, in_remove, from-remove, reflects-member}
 use Rattle.calculus.specs.Reflects.Iff.{iff-either, iff_some}
@@ -131,19 +131,19 @@ module _ (pool : Pool) (D : Database) where
   neg-sat : {φ χ : Fmla} (σ : Env) → NegView φ χ → Sat pool D χ σ ↔ (¬ Sat pool D φ σ)
   neg-sat σ (neg_truth true) = (λ t u. t, λ n. n tt)
   neg-sat σ (neg_truth false) = (λ t u. u, λ n. tt)
-  neg-sat σ (neg_other e) = Iff·rfl
+  neg-sat σ (neg_other e) = Iff.rfl
 
   join-sat : (u : Bool) {φ ψ χ : Fmla} (σ : Env) → JoinView u φ ψ χ → Sat pool D χ σ ↔ Sat pool D (join u φ ψ) σ
   join-sat true σ left_unit = (λ s. (tt, s), λ s. s.1)
   join-sat true σ left_zero = (λ s. absurd s, λ s. s.0)
   join-sat true σ (right_unit e) = (λ s. (s, tt), λ s. s.0)
   join-sat true σ (right_zero e) = (λ s. absurd s, λ s. s.1)
-  join-sat true σ (neither e f) = Iff·rfl
+  join-sat true σ (neither e f) = Iff.rfl
   join-sat false σ left_unit = (inr, ⊎_elim (λ t. absurd t) (λ s. s))
   join-sat false σ left_zero = (inl, λ s. tt)
   join-sat false σ (right_unit e) = (inl, ⊎_elim (λ s. s) (λ t. absurd t))
   join-sat false σ (right_zero e) = (inr, λ s. tt)
-  join-sat false σ (neither e f) = Iff·rfl
+  join-sat false σ (neither e f) = Iff.rfl
 
   -- An exists whose variable isn't free says nothing.
   pub exists-unused : (z : ℕ) (φ : Fmla) → ¬ In z (fv φ) → (σ : Env) → Sat pool D φ σ ↔ Sat pool D (exists z φ) σ
@@ -157,25 +157,25 @@ module _ (pool : Pool) (D : Database) where
   exists-sat z φ σ = go (exists-view z φ)
     where
       go : {χ : Fmla} → ExistsView z φ χ → Sat pool D χ σ ↔ Sat pool D (exists z φ) σ
-      go (kept i) = Iff·rfl
+      go (kept i) = Iff.rfl
       go (dropped n) = exists-unused z φ n σ
 
   eq-sat : (x : ℕ) (t : Term) (σ : Env) → Sat pool D (cp_eq x t) σ ↔ Sat pool D (eq x t) σ
-  eq-sat x (con p) σ = Iff·rfl
+  eq-sat x (con p) σ = Iff.rfl
   eq-sat x (var y) σ = go (reflects-eqb x y)
     where
       go : {b : Bool} → Reflects (x ≡ y) b → Sat pool D (cond b (truth true) (eq x (var y))) σ ↔ (σ x ≡ σ y)
       go (holds e) = (λ t. ap σ e, λ s. tt)
-      go (fails n) = Iff·rfl
+      go (fails n) = Iff.rfl
 
   pub cp-sat : (φ : Fmla) (σ : Env) → Sat pool D (cp φ) σ ↔ Sat pool D φ σ
-  cp-sat (truth b) σ = Iff·rfl
-  cp-sat (rel r ts) σ = Iff·rfl
+  cp-sat (truth b) σ = Iff.rfl
+  cp-sat (rel r ts) σ = Iff.rfl
   cp-sat (eq x t) σ = eq-sat x t σ
-  cp-sat (neg φ) σ = Iff·trans (neg-sat σ (neg-view (cp φ))) (Iff·not (cp-sat φ σ))
-  cp-sat (conj φ ψ) σ = Iff·trans (join-sat true σ (join-view true (cp φ) (cp ψ))) (Iff·and (cp-sat φ σ) (cp-sat ψ σ))
-  cp-sat (disj φ ψ) σ = Iff·trans (join-sat false σ (join-view false (cp φ) (cp ψ))) (iff-either (cp-sat φ σ) (cp-sat ψ σ))
-  cp-sat (exists z φ) σ = Iff·trans (exists-sat z (cp φ) σ) (iff_some (λ v. cp-sat φ (bind z v σ)))
+  cp-sat (neg φ) σ = Iff.trans (neg-sat σ (neg-view (cp φ))) (Iff.not (cp-sat φ σ))
+  cp-sat (conj φ ψ) σ = Iff.trans (join-sat true σ (join-view true (cp φ) (cp ψ))) (Iff.and (cp-sat φ σ) (cp-sat ψ σ))
+  cp-sat (disj φ ψ) σ = Iff.trans (join-sat false σ (join-view false (cp φ) (cp ψ))) (iff-either (cp-sat φ σ) (cp-sat ψ σ))
+  cp-sat (exists z φ) σ = Iff.trans (exists-sat z (cp φ) σ) (iff_some (λ v. cp-sat φ (bind z v σ)))
 
 -- ---- what the form collects is among what the query does
 

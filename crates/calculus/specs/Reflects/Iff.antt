@@ -1,4 +1,4 @@
--- Equivalences, by the shape of the two sides. With the library's Iff·not and Iff·and they go through a formula's cases.
+-- Equivalences, by the shape of the two sides. With the library's Iff.not and Iff.and they go through a formula's cases.
 use Rattle.std.specs.Prelude.{ℕ, ◌≡◌, ◌↔◌, ◌⊎◌}
 use Rattle.std.proofs.Common.{sym, subst, ◌∙◌, inl, inr, ⊎_elim}
 

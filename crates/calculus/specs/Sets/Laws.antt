@@ -78,6 +78,7 @@ from-map f (x ∷ xs) (there i) = let r = from-map f xs i in (r.0, there r.1, r.
 pub in-union : {A B : Type 0} (f : A → List B) {x : A} {y : B} {xs : List A} → In x xs → In y (f x) → In y (union_of f xs)
 in-union f {y = y} {xs = z ∷ xs} (here e) i = in_left (union_of f xs) (subst (λ u. In y (f u)) e i)
 in-union f {xs = z ∷ xs} (there j) i = in_right (f z) (in-union f j i)
+in-union {A = A} {B = B} f {y = y} {xs = []} x6 i = elim x6 [ ]
 
 pub from-union : {A B : Type 0} (f : A → List B) {y : B} (xs : List A) → In y (union_of f xs) → (x : A) × In x xs × In y (f x)
 from-union f [] i = absurd (in-nil i)
@@ -106,6 +107,7 @@ in-select p {x} {xs = y ∷ xs} (there i) t = go (p y) (in-select p i t)
     go : (b : Bool) → In x (select p xs) → In x (cond b (y ∷ select p xs) (select p xs))
     go true j = there j
     go false j = j
+in-select {A = A} p {x = x} {xs = []} x6 t = elim x6 [ ]
 
 pub from-select : {A : Type 0} (p : A → Bool) {x : A} (xs : List A) → In x (select p xs) → In x xs × T (p x)
 from-select p [] i = absurd (in-nil i)
@@ -195,6 +197,7 @@ from-remove {x} {z} xs i = let r = from-select (λ y. not (eqb y z)) xs i in (r.
 pub fresh-above : {x : ℕ} (xs : List ℕ) → In x xs → x < fresh xs
 fresh-above (y ∷ xs) (here e) = subst (λ u. suc u ≤ fresh (y ∷ xs)) (sym e) (le-max_left (suc y) (fresh xs))
 fresh-above (y ∷ xs) (there i) = lt_of_lt_of_le (fresh-above xs i) (le-max_right (suc y) (fresh xs))
+fresh-above [] x'' = elim x'' [ ]
 
 pub fresh-out : (xs : List ℕ) → ¬ In (fresh xs) xs
 fresh-out xs i = lt_irrefl (fresh xs) (fresh-above xs i)

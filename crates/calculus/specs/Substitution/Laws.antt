@@ -2,7 +2,8 @@
 -- Fuel beyond the height does not count; `Renaming` is the graph of the substitution, and the last two laws go along it, with no fuel in sight.
 use Rattle.std.specs.Prelude.{ℕ, zero, suc, ◌≤◌, max, ◌≡◌, refl, ◌↔◌, ◌⊎◌, ◌≢◌, Bool, cond, List, [], ◌∷◌, ◌++◌, map, eqb}
 use Rattle.std.proofs.Common.{arith, sym, ap, subst, ◌∙◌, inl, inr, ⊎_elim}
-use Rattle.std.proofs.Math.Logic.{Iff·rfl, Iff·trans, Iff·not, Iff·and, Ne·symm}
+use Rattle.std.proofs.Math.Logic.{Ne-symm}
+use Rattle.std.proofs.Math.Logic.Iff
 use Rattle.calculus.specs.Sets.{In, here, there, remove}
 use Rattle.calculus.specs.Sets.Laws.{in-nil, in_one, in_left, in_right, in-append, in-append-map, in_remove, from-remove, fresh-out}
 use Rattle.calculus.specs.Reflects.Iff.{iff-path, iff-eq, iff-either, iff_some}
@@ -248,7 +249,7 @@ renaming-fv (on_bound {z} {φ} {x} {y} e) = subst (λ w. Replaces x y (remove w 
 renaming-fv (on_caught {z} {φ} {χ} {φ'} {x} {y} n e r s) =
     replaces-same (remove z (fv φ)) (remove (fresh2 x y φ) (fv χ)) (remove (fresh2 x y φ) (fv φ'))
     (replaces-bound (fv φ) (fv χ) (fresh2-not-free x y φ) (renaming-fv r))
-    (replaces-remove (fv χ) (fv φ') (fresh2-not-first x y φ) (Ne·symm (fresh2-not-second x y φ)) (renaming-fv s))
+    (replaces-remove (fv χ) (fv φ') (fresh2-not-first x y φ) (Ne-symm (fresh2-not-second x y φ)) (renaming-fv s))
 renaming-fv (on_free {z} {φ} {φ'} n m r) = replaces-remove (fv φ) (fv φ') n m (renaming-fv r)
 
 -- 000: fv_subst, in both directions.
@@ -276,7 +277,7 @@ bind-swap {x} {y} {z} v σ n m u = go (reflects-eqb u x) (reflects-eqb u z)
   where
     go : {b c : Bool} → Reflects (u ≡ x) b → Reflects (u ≡ z) c → cond b (bind z v σ y) (cond c v (σ u)) ≡ cond c v (cond b (σ y) (σ u))
     go (holds p) (holds q) = absurd (n (sym p ∙ q))
-    go (holds p) (fails k) = bind-other z v σ y (Ne·symm m)
+    go (holds p) (fails k) = bind-other z v σ y (Ne-symm m)
     go (fails k) (holds q) = refl
     go (fails k) (fails l) = refl
 
@@ -313,23 +314,23 @@ module _ (pool : Pool) (D : Database) where
   means-bound z φ x y e σ = iff_some (λ v. sat-agree pool D φ (bind x v σ) (bind z v (bind x (σ y) σ)) (λ u i. bind-hides v (σ y) σ e u))
 
   means-free : (z : ℕ) (φ ψ : Fmla) (x y : ℕ) → x ≢ z → z ≢ y → Means φ x y ψ → Means (exists z φ) x y (exists z ψ)
-  means-free z φ ψ x y n m r σ = iff_some (λ v. Iff·trans (r (bind z v σ)) (sat-agree pool D φ (bind x (bind z v σ y) (bind z v σ)) (bind z v (bind x (σ y) σ)) (λ u i. bind-swap v σ n m u)))
+  means-free z φ ψ x y n m r σ = iff_some (λ v. Iff.trans (r (bind z v σ)) (sat-agree pool D φ (bind x (bind z v σ y) (bind z v σ)) (bind z v (bind x (σ y) σ)) (λ u i. bind-swap v σ n m u)))
 
   -- A bound variable may take any name w that is not free below it.
   means-renamed : (z w : ℕ) (φ χ : Fmla) → ¬ In w (fv φ) → Means φ z w χ → (σ : Env) → Sat pool D (exists w χ) σ ↔ Sat pool D (exists z φ) σ
-  means-renamed z w φ χ n r σ = iff_some (λ v. Iff·trans (r (bind w v σ)) (sat-agree pool D φ (bind z (bind w v σ w) (bind w v σ)) (bind z v σ) (λ u i. bind-through z v σ (λ e. n (subst (λ k. In k (fv φ)) e i)))))
+  means-renamed z w φ χ n r σ = iff_some (λ v. Iff.trans (r (bind w v σ)) (sat-agree pool D φ (bind z (bind w v σ w) (bind w v σ)) (bind z v σ) (λ u i. bind-through z v σ (λ e. n (subst (λ k. In k (fv φ)) e i)))))
 
   pub renaming-sat : {φ ψ : Fmla} {x y : ℕ} → Renaming φ x y ψ → (σ : Env) → Sat pool D ψ σ ↔ Sat pool D φ (bind x (σ y) σ)
-  renaming-sat on_truth σ = Iff·rfl
+  renaming-sat on_truth σ = Iff.rfl
   renaming-sat (on_rel {r} {ts} {x} {y}) σ = iff-path (λ vs. In (fact r vs) D) (values-subst pool σ x y ts)
   renaming-sat (on_eq {z} {t} {x} {y}) σ = iff-eq (value-var y σ (reflects-map sym sym (reflects-eqb z x)) (reflects-eqb z x)) (value-subst pool σ x y t)
-  renaming-sat (on_neg r) σ = Iff·not (renaming-sat r σ)
-  renaming-sat (on_conj r s) σ = Iff·and (renaming-sat r σ) (renaming-sat s σ)
+  renaming-sat (on_neg r) σ = Iff.not (renaming-sat r σ)
+  renaming-sat (on_conj r s) σ = Iff.and (renaming-sat r σ) (renaming-sat s σ)
   renaming-sat (on_disj r s) σ = iff-either (renaming-sat r σ) (renaming-sat s σ)
   renaming-sat (on_bound {z} {φ} {x} {y} e) σ = means-bound z φ x y e σ
   renaming-sat (on_caught {z} {φ} {χ} {φ'} {x} {y} n e r s) σ =
-      Iff·trans
-      (means-free (fresh2 x y φ) χ φ' x y (fresh2-not-first x y φ) (Ne·symm (fresh2-not-second x y φ)) (λ τ. renaming-sat s τ) σ)
+      Iff.trans
+      (means-free (fresh2 x y φ) χ φ' x y (fresh2-not-first x y φ) (Ne-symm (fresh2-not-second x y φ)) (λ τ. renaming-sat s τ) σ)
       (means-renamed z (fresh2 x y φ) φ χ (fresh2-not-free x y φ) (λ τ. renaming-sat r τ) (bind x (σ y) σ))
   renaming-sat (on_free {z} {φ} {φ'} {x} {y} n m r) σ = means-free z φ φ' x y n m (λ τ. renaming-sat r τ) σ
 

@@ -62,6 +62,7 @@ module _ (bs : List ℕ) where
     values-small i v (there (here e)) = subst⁻¹ (λ u. u < 2 ^ 32) e (word_fits bs small (start i + 5))
     values-small i v (there (there (here e))) = subst⁻¹ (λ u. u < 2 ^ 32) e (word_fits bs small (start i + 9))
     values-small i v (there (there (there (here e)))) = subst⁻¹ (λ u. u < 2 ^ 32) e (word_fits bs small (start i + 13))
+    values-small i v (there (there (there (there x12)))) = elim x12 [ ]
 
     fact_small : (f : Fact) → In f (facts (store_in bs)) → (v : ℕ) → In v (values_in f) → v < 2 ^ 32
     fact_small f i v j =

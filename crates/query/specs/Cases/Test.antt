@@ -47,6 +47,7 @@ Each P (c ∷ cs) = P c × Each P cs
 each_in : (P : Case → Type 0) {c : Case} (cs : List Case) → Each P cs → In c cs → P c
 each_in P (d ∷ cs) e (here p) = subst⁻¹ P p e.0
 each_in P (d ∷ cs) e (there i) = each_in P cs e.1 i
+each_in P {c = c} [] e x'' = elim x'' [ ]
 
 all_read : Each Read cases
 all_read = ((refl, refl), ((refl, refl), ((refl, refl), ((refl, refl), ((refl, refl), ((refl, refl), ((refl, refl), ((refl, refl), ((refl, refl), ((refl, refl), ((refl, refl), ((refl, refl), ((refl, refl), ((refl, refl), ((refl, refl), ((refl, refl), ((refl, refl), ((refl, refl), tt))))))))))))))))))

@@ -210,7 +210,10 @@ read-pack ws pool φ t p = (accepts ws pool φ t p, root-words ws pool φ t p)
 
 module _ (ws : List ℕ) (pool : Pool) (φ : Fmla) (t : T (widths_fit ws)) (p : Packable ws pool φ) where
   pub packed-formula : formula (read_of ws (pack pool φ)).query ≡ φ
-  packed-formula = rw (read-pack ws pool φ t p).0 (ap root (take-append_seam (words φ 0) (replicate (max_nodes - length (words φ 0)) 0)) ∙ (read-pack ws pool φ t p).1)
+  packed-formula =
+      ap (λ r. formula r.query) (read-pack ws pool φ t p).0
+      ∙ ap root (take-append_seam (words φ 0) (replicate (max_nodes - length (words φ 0)) 0))
+      ∙ (read-pack ws pool φ t p).1
 
   pub packed-pool : pool_of (read_of ws (pack pool φ)).query ≡ pool
   packed-pool = rw (read-pack ws pool φ t p).0 (take-append_seam pool (replicate (max_constants - length pool) 0))

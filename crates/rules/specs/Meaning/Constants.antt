@@ -68,6 +68,7 @@ in-added pool v = go (reflects-member v pool)
 pub in-pooled : (pool : Pool) (vs : List ℕ) → vs ⊆ pooled pool vs
 in-pooled pool (v ∷ vs) w (here e) = subst⁻¹ (λ u. In u (pooled (added pool v) vs)) e (pooled-keeps (added pool v) vs v (in-added pool v))
 in-pooled pool (v ∷ vs) w (there i) = in-pooled (added pool v) vs w i
+in-pooled pool [] w x'' = elim x'' [ ]
 
 from-added : (pool : Pool) (v w : ℕ) → In w (added pool v) → In w pool ⊎ (w ≡ v)
 from-added pool v w = go (member v pool)
@@ -99,6 +100,7 @@ place-below (c ∷ cs) v i = go (reflects-eqb v c) (place-below cs v)
     go : {b : Bool} → Reflects (v ≡ c) b → (In v cs → place_in cs v < length cs) → cond b zero (suc (place_in cs v)) < suc (length cs)
     go (met e) r = omega arith
     go (missed n) r = suc-le-suc (r (⊎_elim (λ e. absurd (n e)) (λ j. j) (in-cons i)))
+place-below [] v i = elim i [ ]
 
 -- A member's place holds it.
 pub place-holds : (pool : Pool) (v : ℕ) → In v pool → get_or pool (place_in pool v) 0 ≡ v
@@ -107,6 +109,7 @@ place-holds (c ∷ cs) v i = go (reflects-eqb v c) (place-holds cs v)
     go : {b : Bool} → Reflects (v ≡ c) b → (In v cs → get_or cs (place_in cs v) 0 ≡ v) → get_or (c ∷ cs) (cond b zero (suc (place_in cs v))) 0 ≡ v
     go (met e) r = sym e
     go (missed n) r = r (⊎_elim (λ e. absurd (n e)) (λ j. j) (in-cons i))
+place-holds [] v i = elim i [ ]
 
 -- A member keeps its place where the pool grows.
 pub place-grows : (pool more : List ℕ) (v : ℕ) → In v pool → place_in (pool ++ more) v ≡ place_in pool v
@@ -115,6 +118,7 @@ place-grows (c ∷ cs) more v i = go (reflects-eqb v c) (place-grows cs more v)
     go : {b : Bool} → Reflects (v ≡ c) b → (In v cs → place_in (cs ++ more) v ≡ place_in cs v) → cond b zero (suc (place_in (cs ++ more) v)) ≡ cond b zero (suc (place_in cs v))
     go (met e) r = refl
     go (missed n) r = ap suc (r (⊎_elim (λ e. absurd (n e)) (λ j. j) (in-cons i)))
+place-grows [] more v i = elim i [ ]
 
 -- A value that the pool lacks would stand at its end.
 pub place-missing : (pool : Pool) (v : ℕ) → ¬ In v pool → place_in pool v ≡ length pool

@@ -3,7 +3,7 @@ use Rattle.std.specs.Prelude.{ℕ, ◌≡◌, refl, ◌↔◌, false, List, [], 
 use Rattle.std.proofs.Math.Nat.{suc_inj}
 use Rattle.std.proofs.Common.{suc-ne-zero, sym, ap, subst, ◌∙◌, ⊎_elim}
 use Rattle.std.proofs.Math.Path.{subst⁻¹}
-use Rattle.std.proofs.Math.Logic.{Iff·trans, Iff·not}
+use Rattle.std.proofs.Math.Logic.Iff
 use Rattle.std.proofs.lemmas.List.{length-map}
 use Rattle.calculus.specs.Sets.{In, here, there, ◌⊆◌, union_of}
 use Rattle.calculus.specs.Sets.Laws.{in-nil, in-cons, in_left, in_right, in-union}
@@ -38,7 +38,7 @@ module _ (pool : Pool) (D : Database) (σ : Env) where
   -- A goal's formula is satisfied where the goal is true.
   pub goal-means : (g : Goal) → goal_values g ⊆ pool → Sat pool D (goal_formula pool g) σ ↔ GoalTrue D σ g
   goal-means (holds r ts) h = relation-means r ts h
-  goal-means (fails r ts) h = Iff·not (relation-means r ts h)
+  goal-means (fails r ts) h = Iff.not (relation-means r ts h)
   goal-means (equal x t) h = iff-eq refl (term-means t (λ v i. h v (in_left [] i)))
 
   first-and-rest : (g : Goal) (gs : List Goal) → goal_values g ⊆ pool → (Sat pool D (goal_formula pool g) σ × ((f : Goal) → In f gs → GoalTrue D σ f)) ↔ ((f : Goal) → In f (g ∷ gs) → GoalTrue D σ f)
@@ -53,12 +53,12 @@ module _ (pool : Pool) (D : Database) (σ : Env) where
   joined-means φ (g ∷ gs) h =
       let rest = joined-means (conj φ (goal_formula pool g)) gs (λ v i. h v (in_right (goal_values g) i)) in
       let regroup = first-and-rest g gs (λ v i. h v (in_left (values_in gs) i)) in
-      Iff·trans rest (λ s. (s.0.0, regroup.0 (s.0.1, s.1)), λ s. let r = regroup.1 s.1 in ((s.0, r.0), r.1))
+      Iff.trans rest (λ s. (s.0.0, regroup.0 (s.0.1, s.1)), λ s. let r = regroup.1 s.1 in ((s.0, r.0), r.1))
 
   -- The goals' formula is satisfied where every goal is true.
   pub matrix-means : (gs : Several Goal) → values_in (all gs) ⊆ pool → Sat pool D (matrix pool gs) σ ↔ ((g : Goal) → In g (all gs) → GoalTrue D σ g)
   matrix-means (several g gs) h =
-      Iff·trans (joined-means (goal_formula pool g) gs (λ v i. h v (in_right (goal_values g) i))) (first-and-rest g gs (λ v i. h v (in_left (values_in gs) i)))
+      Iff.trans (joined-means (goal_formula pool g) gs (λ v i. h v (in_right (goal_values g) i))) (first-and-rest g gs (λ v i. h v (in_left (values_in gs) i)))
 
 -- ---- the quantifiers
 
@@ -129,4 +129,4 @@ rule-row (rule xs gs) e D w = (
 
 -- A right listing of a rule's query has exactly the rows of the rule.
 pub rule-rows : (R : Rule) → overstepped R ≡ false → (D : Database) (rows : List Row) → Right (pool_of (goals R)) D (formula_of R) (head R) (listed rows) → (w : Row) → In w rows ↔ RuleRow D R w
-rule-rows R e D rows right w = Iff·trans (right.1 w) (rule-row R e D w)
+rule-rows R e D rows right w = Iff.trans (right.1 w) (rule-row R e D w)

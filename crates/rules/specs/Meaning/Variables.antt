@@ -1,7 +1,7 @@
 -- The free variables of a rule's formula: those of its goals without the quantified ones, so the columns of its query are the variables of its head.
 use Rattle.std.specs.Prelude.{ℕ, ◌≡◌, refl, ◌↔◌, false, not, List, [], ◌∷◌, ◌++◌, map, ltb}
 use Rattle.std.proofs.Common.{sym, ap, subst, ◌∙◌, ⊎_elim, append-nil, append_assoc}
-use Rattle.std.proofs.Math.Logic.{Iff·trans}
+use Rattle.std.proofs.Math.Logic.Iff
 use Rattle.calculus.specs.Sets.{In, here, there, union_of, member, remove}
 use Rattle.calculus.specs.Sets.Laws.{in-nil, in-cons, in_remove, from-remove, in-select, from-select, reflects-member}
 use Rattle.calculus.specs.Reflects.Laws.{reflects, reflected, reflects-not, decided}
@@ -81,7 +81,7 @@ head-unbound R x i j = ((bound-members R x).0 j).1 i
 -- ---- the columns
 
 formula-free : (R : Rule) → Within R → (x : ℕ) → In x (fv (formula_of R)) ↔ In x (head R)
-formula-free (rule xs gs) w x = Iff·trans (quantified-free (bound (rule xs gs)) (matrix (pool_of (all gs)) gs) x) (unquantified, quantifies)
+formula-free (rule xs gs) w x = Iff.trans (quantified-free (bound (rule xs gs)) (matrix (pool_of (all gs)) gs) x) (unquantified, quantifies)
   where
     unquantified : In x (fv (matrix (pool_of (all gs)) gs)) × ¬ In x (bound (rule xs gs)) → In x xs
     unquantified h = unbound-head (rule xs gs) x (subst (In x) (matrix-free (pool_of (all gs)) gs) h.0) h.1
@@ -93,4 +93,4 @@ formula-free (rule xs gs) w x = Iff·trans (quantified-free (bound (rule xs gs))
 pub rule-columns : (R : Rule) → overstepped R ≡ false → columns (formula_of R) ≡ head R
 rule-columns R e =
     ascending-unique ltb ltb-order (sort-ascending ltb ltb-order (fv (formula_of R))) (within R e).ascends
-    (λ x. Iff·trans (sort-members ltb ltb-order (fv (formula_of R)) x) (formula-free R (within R e) x))
+    (λ x. Iff.trans (sort-members ltb ltb-order (fv (formula_of R)) x) (formula-free R (within R e) x))

@@ -51,6 +51,7 @@ module _ (ws : List ℕ) (k : ℕ) where
     later-fits : (φ : Fmla) (gs : List Goal) → Fits ws k (conjoined pool φ gs) → (g : Goal) → In g gs → Fits ws k (goal_formula pool g)
     later-fits φ (h ∷ gs) f g (here e) = subst⁻¹ (λ d. Fits ws k (goal_formula pool d)) e (right_fits (first_fits (conj φ (goal_formula pool h)) gs f))
     later-fits φ (h ∷ gs) f g (there i) = later-fits (conj φ (goal_formula pool h)) gs f g i
+    later-fits φ [] f g x'' = elim x'' [ ]
 
     matrix-fits : (h : Goal) (gs : List Goal) → Fits ws k (conjoined pool (goal_formula pool h) gs) → (g : Goal) → In g (h ∷ gs) → Fits ws k (goal_formula pool g)
     matrix-fits h gs f g (here e) = subst⁻¹ (λ d. Fits ws k (goal_formula pool d)) e (first_fits (goal_formula pool h) gs f)

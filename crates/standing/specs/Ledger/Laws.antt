@@ -4,7 +4,7 @@
 use Rattle.std.specs.Prelude.{ℕ, ◌+◌, ◌<◌, ◌≡◌, refl, Bool, true, false, List, [], ◌∷◌, ◌++◌, map, length, T}
 use Rattle.std.proofs.Common.{arith, sym, ap, subst, subst₂, ◌∙◌}
 use Rattle.std.proofs.Math.Path.{subst⁻¹}
-use Rattle.std.proofs.Math.Logic.{Iff·trans, Iff·symm}
+use Rattle.std.proofs.Math.Logic.Iff
 use Rattle.std.proofs.Math.Option.{some}
 use Rattle.calculus.specs.Order.{Ascending, nothing}
 use Rattle.calculus.specs.Order.Laws.{ascending-unique}
@@ -117,7 +117,7 @@ module _ (l : Ledger) (a : Account) (c : Call) where
   -- Two renewals by one call have the same records, so they find the same.
   module _ {joined left others gone : List Row} {rs us : List Record} {b d : Account} (x : Renews l a c joined left rs b) (y : Renews l a c others gone us d) where
     renews-records : rs ≡ us
-    renews-records = ascending-unique record_below record-order x.records_ascend y.records_ascend (λ r. Iff·trans (x.records_are r) (Iff·symm (y.records_are r)))
+    renews-records = ascending-unique record_below record-order x.records_ascend y.records_ascend (λ r. Iff.trans (x.records_are r) (Iff.symm (y.records_are r)))
 
     same-found : (b.endless ≡ d.endless) × (b.rows ≡ d.rows)
     same-found =
@@ -155,7 +155,7 @@ module _ (l : Ledger) (a : Account) (c : Call) where
       (j.number_is x).0 w ∙ sym ((j.number_is y).0 v)
 
 -- A call has one answer, and one ledger after it.
-pub enters-unique : {l n m : Ledger} {i : ℕ} {a : Account} {c : Call} {r u : Report} → Enters l i a c r n → Enters l i a c u m → (r ≡ u) × (n ≡ m)
+pub enters-unique : {l : Ledger} {i : ℕ} {a : Account} {c : Call} {n m : Ledger} {r u : Report} → Enters l i a c r n → Enters l i a c u m → (r ≡ u) × (n ≡ m)
 enters-unique {l} {a = a} {c = c} (refused h x) (refused g y) = (ap refuses (same-record-cause l a c x y), refl)
 enters-unique {l} {a = a} {c = c} (refused h x) (withdrawn y w g v) = never h (same-record-cause l a c x y)
 enters-unique {l} {a = a} {c = c} (refused h x) (accepted y w v) = never h (same-record-cause l a c x y)
@@ -298,7 +298,7 @@ module _ (l : Ledger) (i : ℕ) (a : Account) (c : Call) (records_ascend : Ascen
 -- ---- its reports
 
 -- The rows of an account of the ledger after a call, and of the one before: a call that is answered with the number 0 reports what they differ in.
-pub enters-reports : {l n : Ledger} {i : ℕ} {a : Account} {c : Call} {r : Report} → Enters l i a c r n → r.number ≡ 0 →
+pub enters-reports : {l : Ledger} {i : ℕ} {a : Account} {c : Call} {n : Ledger} {r : Report} → Enters l i a c r n → r.number ≡ 0 →
     (b : Account) × (n.lists ≡ with_list i b l.lists) × Difference b.rows a.rows r.joined × Difference a.rows b.rows r.left
 enters-reports (refused h x) e = never h e
 enters-reports (withdrawn x z h u) e = never h e
@@ -335,7 +335,7 @@ renews-balanced {l} {a} {b} {records = records} x d =
     }
 
 -- A call, whatever it answers, leaves them so.
-enters-balanced : {l n : Ledger} {i : ℕ} {a : Account} {c : Call} {r : Report} → Enters l i a c r n → l.lists i ≡ some a → Every Balanced l.lists → Every Balanced n.lists
+enters-balanced : {l : Ledger} {i : ℕ} {a : Account} {c : Call} {n : Ledger} {r : Report} → Enters l i a c r n → l.lists i ≡ some a → Every Balanced l.lists → Every Balanced n.lists
 enters-balanced (refused h x) e all = all
 enters-balanced (withdrawn x z h u) e all = all
 enters-balanced {i = i} {a = a} (accepted {b = b} x z u) e all = every-with Balanced i b (renews-balanced z (all i a e)) all

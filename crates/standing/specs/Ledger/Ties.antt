@@ -3,7 +3,7 @@
 use Rattle.std.specs.Prelude.{ℕ, zero, suc, ◌*◌, ◌^◌, ◌≤◌, ◌<◌, ◌≡◌, refl, ◌↔◌, ◌⊎◌, ◌≢◌, Bool, true, false, not, ◌&&◌, ◌||◌, List, [], ◌∷◌, length, get_or, drop, eqb, ltb}
 use Rattle.std.proofs.Common.{arith, sym, subst, inl, inr, ⊎_elim}
 use Rattle.std.proofs.Math.Path.{subst⁻¹}
-use Rattle.std.proofs.Math.Logic.{Iff·rfl, Iff·trans, Iff·symm}
+use Rattle.std.proofs.Math.Logic.Iff
 use Rattle.std.proofs.Math.Bool.{or-false}
 use Rattle.calculus.specs.Sets.{In, here, there, any_of, all_of}
 use Rattle.calculus.specs.Sets.Laws.{in-cons}
@@ -91,7 +91,7 @@ reflects-over a =
 -- ---- the first cause met
 
 judged-none : Judged no_cause []
-judged-none = record { number_is = λ a. Iff·rfl; place_is = refl }
+judged-none = record { number_is = λ a. Iff.rfl; place_is = refl }
 
 judged-cause : (n : ℕ) {P : Type 0} {b : Bool} {later : ℕ → Type 0} {cs : List Check} → Reflects P b → Judged later cs → Judged (cause n P later) (check n (when b) ∷ cs)
 judged-cause n (holds x) j = record { number_is = λ a. (⊎_elim (λ p. p.1) (λ p. absurd (p.0 x)), λ e. inl (x, e)); place_is = refl }
@@ -136,7 +136,7 @@ after-members (removal t) records r = (λ i. let h = from-without t records i in
 -- ---- rows joined and left
 
 pub difference-unique : (xs ys : List Row) {rows others : List Row} → Difference xs ys rows → Difference xs ys others → rows ≡ others
-difference-unique xs ys a b = ascending-unique row_below row-order a.0 b.0 (λ w. Iff·trans (a.1 w) (Iff·symm (b.1 w)))
+difference-unique xs ys a b = ascending-unique row_below row-order a.0 b.0 (λ w. Iff.trans (a.1 w) (Iff.symm (b.1 w)))
 
 pub only_in-difference : {xs : List Row} (ys : List Row) → Ascending row_below xs → Difference xs ys (only_in xs ys)
 only_in-difference {xs} ys a = (only_in-ascending ys a, λ w. in-only_in w xs ys)

@@ -391,10 +391,10 @@ module _ (i : ℕ) where
   -- The calls leave the list open for the same query, and the widths.
   stays_open : {s t : Store} {f d : Family Driver} (bs : List ℕ) (ps : List (Call × Reply)) → Run s f (calls_of i ps) t d → judgement s ≡ Done → (v : View) → f i ≡ some (driver bs v) → (w : View) × (d i ≡ some (driver bs w)) × (t.widths ≡ s.widths)
   stays_open bs [] ended judged v at = (v, at, refl)
-  stays_open {s} {f = f} bs (p ∷ ps) (call_then {x = x} {c = c} {r = r} e made run) judged v at =
+  stays_open {s = s} {t = t} {f = f} {d = d} bs (p ∷ ps) (call_then {x = x} {c = c} {r = r} e made run) judged v at =
       let same : x ≡ driver bs v = one_list f i e at in
       let kept = subst⁻¹ (StoreKept s) made (change-store c.action s x.view x.bytes c.first c.second judged) in
-      let rest = stays_open bs ps run kept.0 r.0.view (with-own i (driver x.bytes r.0.view) f ∙ ap (λ y. some (driver y.bytes r.0.view)) same) in
+      let rest = stays_open {s = p.1.0.store} bs ps run kept.0 r.0.view (with-own i (driver x.bytes r.0.view) f ∙ ap (λ y. some (driver y.bytes r.0.view)) same) in
       (rest.0, rest.1, rest.2 ∙ kept.1)
 
 module _ (s t : Store) (d : Family Driver) (i : ℕ) (bs : List ℕ) (v : View) (ps : List (Call × Reply)) (run : Run s no_list (opened i bs v ∷ calls_of i ps) t d) where

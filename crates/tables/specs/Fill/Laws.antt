@@ -2,7 +2,7 @@
 use Rattle.std.specs.Prelude.{ℕ, ◌<◌, ◌≤◌, ◌+◌, ◌≡◌, refl, ◌↔◌, ◌⊎◌, Bool, true, false, not, ◌&&◌, List, [], ◌∷◌, ◌++◌, map, length, take, get_or, T}
 use Rattle.std.proofs.Common.{arith, sym, ap, subst, ◌∙◌, inl, inr, ⊎_elim, take-suc, take_all, add-one}
 use Rattle.std.proofs.Math.Path.{subst⁻¹}
-use Rattle.std.proofs.Math.Logic.{Iff·trans}
+use Rattle.std.proofs.Math.Logic.Iff
 use Rattle.calculus.specs.Sets.{In, here, there}
 use Rattle.calculus.specs.Sets.Laws.{in-nil, in-cons, in_map, from-map}
 use Rattle.calculus.specs.Order.{Ascending, nothing, insert}
@@ -154,7 +154,7 @@ filled ws ps (r ∷ rs) h e = subst⁻¹ (λ c. Filled ws ps (r ∷ rs) c.store)
     out_of q (inr i) = inr (in_insert record_below record-order r ps q (there i))
 
     add-first : {s : Store} → Filled ws (insert record_below r ps) rs s → Filled ws ps (r ∷ rs) s
-    add-first f = record { stored = f.stored; store_is = f.store_is; holdable = f.holdable; members = λ q. Iff·trans (f.members q) (into q, out_of q) }
+    add-first f = record { stored = f.stored; store_is = f.store_is; holdable = f.holdable; members = λ q. Iff.trans (f.members q) (into q, out_of q) }
 
 module _ (ws : List ℕ) (rs : List Record) (done : (fill_reply ws rs).answer ≡ Done) where
   fill-worked : (first_cause (check 1 (when (not (widths_fit ws))) ∷ []) ≡ Done) × (fill_reply ws rs ≡ fill_from ws [] rs)

@@ -25,6 +25,7 @@ ascending-front (y ∷ ys) x (before h a) = before (λ z i. h z (in_left (x ∷ 
 ascending-to-last : (xs : List ℕ) (x : ℕ) → Ascending ltb (xs ++ (x ∷ [])) → (y : ℕ) → In y xs → y < x
 ascending-to-last (z ∷ zs) x (before h a) y (here e) = subst⁻¹ (λ u. u < x) e (ltb→lt z x (h x (in_right zs (here refl))))
 ascending-to-last (z ∷ zs) x (before h a) y (there i) = ascending-to-last zs x a y i
+ascending-to-last [] x _ y x5 = elim x5 [ ]
 
 ascending-last : (xs : List ℕ) (x : ℕ) → Ascending ltb xs → ((y : ℕ) → In y xs → y < x) → Ascending ltb (xs ++ (x ∷ []))
 ascending-last [] x a h = before (λ y i. absurd (in-nil i)) nothing
