@@ -69,8 +69,9 @@ def turn(text, path, functions, crate):
         """The new name of a need, a place or a loop's definition, with the place."""
         if x.startswith("Need-"):
             n = norm(x[5:])
-            if n not in f.needs and n.startswith("overflow-"):
-                n = n[9:]
+            for old, new in (("overflow-", ""), ("nonzero-", ""), ("slice-bounds-", "part-")):
+                if n not in f.needs and n.startswith(old):
+                    n = new + n[len(old) :]
             if n in f.needs:
                 return "Need-" + f.needs[n], f.place_of_need[n]
             left.append(f"{path}: need {x}")
@@ -99,6 +100,7 @@ def turn(text, path, functions, crate):
 
     opened = []  # module binders: (indent, {var: (f, place)})
     sigs = {}
+    asks = {}
     out = []
     for block in blocks:
         head = block[0] if block else ""
@@ -172,6 +174,10 @@ def turn(text, path, functions, crate):
                             p = name_in(f, q.group(2))[1]
                             if p:
                                 known[a] = (f, p)
+                                asks[m.group(1)] = (f, p)
+                    for v, at in known.items():
+                        if opened and any(v in x for _, x in opened):
+                            asks.setdefault(m.group(1), at)
 
         argument = set()
 
@@ -183,24 +189,54 @@ def turn(text, path, functions, crate):
                 rest = fields[1 + len(first) :]
                 return f"{var}.{name_in(aliases[var], first)[0]}{rest}"
             if not fields:
+                if befores and var in known:
+                    f, p = known[var]
+                    # What stands before it: a helper that asks for a place.
+                    ahead = m.string[: m.start()].rstrip()
+                    g = re.search(r"(" + W + r")((?: (?:t|κs|" + W + r"))?)$", ahead)
+                    wanted = None
+                    for name in ([g.group(1), g.group(2).strip()] if g else []):
+                        if name in asks:
+                            wanted = asks[name]
+                    if wanted and wanted[0] is f:
+                        q, back = p, 0
+                        while q is not None and q != wanted[1]:
+                            q, back = f.places[q][1], back + 1
+                        if q is not None:
+                            return var + ".before" * back
+                        left.append(f"{path}: {whole}: no {wanted[1]} before {p}")
                 return whole
             parts = fields[1:].split(".")
             if var in known:
                 f, p = known[var]
-                for _ in range(befores):
-                    if p is not None and f.places[p][1] is not None:
-                        p = f.places[p][1]
-                    else:
-                        p = None
+                q, back, hit = p, 0, None
+                of_start = norm(parts[0]) not in f.steps
+                while q is not None:
+                    step = f.places[q]
+                    if back >= befores and (norm(step[2]) == norm(parts[0]) if not of_start else step[1] is None):
+                        hit = back
                         break
-                if p is None:
-                    left.append(f"{path}: too far back: {whole}")
-                    return whole
-                step = f.places[p]
-                if norm(step[2]) == norm(parts[0]):
-                    parts[0] = step[3]
-                elif norm(parts[0]) in f.steps:
-                    left.append(f"{path}: {whole}: at {p} the step is {step[2]}")
+                    q, back = step[1], back + 1
+                if hit is None:
+                    # Places that the older Rattle made are gone: the nearest below.
+                    q, back = p, 0
+                    while q is not None:
+                        step = f.places[q]
+                        if norm(step[2]) == norm(parts[0]) if not of_start else step[1] is None:
+                            hit = back
+                        q, back = step[1], back + 1
+                    if hit is None or of_start and parts[0] not in ("args", "requires", "ranges", "pre"):
+                        left.append(f"{path}: not found: {whole} from {p}")
+                        return whole
+                    q = p
+                    for _ in range(hit):
+                        q = f.places[q][1]
+                if hit != befores and of_start and parts[0] not in ("args", "requires", "ranges", "pre"):
+                    left.append(f"{path}: look at: {whole} from {p}")
+                    hit = befores
+                elif not of_start:
+                    parts[0] = f.places[q][3]
+                befores = hit
                 for k, v in f.args.items():
                     k, v = k.strip().split(" ."), v.strip().split(" .")
                     k = [x.strip(". ") for x in k]

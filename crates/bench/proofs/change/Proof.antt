@@ -17,33 +17,33 @@ made s removes = let a = s.args in change_of (action_of removes a.tuple) a.store
 remove-requires : tie.Need-remove-requires
 remove-requires c κs = search rules
 
-same_length : tie.Need-same-length
+same_length : tie.Need-shape_of-joined-then-removal
 same_length c = search rules
 
-same-length-2 : tie.Need-same-length-2
+same-length-2 : tie.Need-shape_of-left-then-removal
 same-length-2 c = search rules
 
-returns : tie.Need-returns
+returns : tie.Need-returns-then-removal
 returns c =
     let r = c.before.before.before.before in let i = r.before.before.before in let s = i.before.before.before.before in
-    r.remove.ensures ∙ ap (λ b. made s b) (sym i.if1.true)
+    r.remove.ensures ∙ ap (λ b. made s b) (sym i.if-removal.true)
 
 put-requires : tie.Need-put-requires
 put-requires c κs = search rules
 
-same-length-3 : tie.Need-same-length-3
+same-length-3 : tie.Need-shape_of-joined
 same-length-3 c = search rules
 
-same-length-4 : tie.Need-same-length-4
+same-length-4 : tie.Need-shape_of-left
 same-length-4 c = search rules
 
-returns-2 : tie.Need-returns-2
+returns-2 : tie.Need-returns
 returns-2 c =
     let r = c.before.before.before.before in let i = r.before.before.before in let s = i.before.before.before.before in
-    r.put.ensures ∙ ap (λ b. made s b) (sym i.if1.false)
+    r.put.ensures ∙ ap (λ b. made s b) (sym i.if-removal.false)
 
-pub change-spec : {M : Type 1} → statement M
-change-spec =
+pub change_spec : {M : Type 1} → statement M
+change_spec =
     tie.close
     (tie.spec
     remove-requires

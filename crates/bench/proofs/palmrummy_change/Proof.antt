@@ -13,32 +13,32 @@ use Rattle.bench.proofs.palmrummy_change.Statement.{statement}
 use Rattle.bench.proofs.palmrummy_change.Tie as tie
 
 -- The list made of the arrays has four places for columns.
-places : (v : tie.After-view-of) → length v.view_of.result.columns.variables ≡ 4
+places : (v : tie.After-view_of-view) → length v.view_of.result.columns.variables ≡ 4
 places v = search rules
 
 -- At most `max_rows` rows joined, and at most as many left.
-abbrev changed : tie.After-enum-told → tie.After-change
+abbrev changed : tie.In_default → tie.After-change-changed
 changed c = c.before.before.before.before.before.before
 
-few : (c : tie.After-enum-told) → ((changed c).change.result.joined ≤ max_rows) × ((changed c).change.result.left ≤ max_rows)
+few : (c : tie.In_default) → ((changed c).change.result.joined ≤ max_rows) × ((changed c).change.result.left ≤ max_rows)
 few c =
     let r = (changed c).before.before.before in
     let s = r.before.before.before.before.before.before.args in
     subst⁻¹ FewTold (changed c).change.ensures (few-told (action_of s.removal r.record_of.result) r.before.before.store_of.result r.before.view_of.result s.bytes.now s.joined.now s.left.now (places r.before))
 
-store-of-requires : tie.Need-store-of-requires
+store-of-requires : tie.Need-store_of-store-requires
 store-of-requires c κs = search rules
 
-view-of-requires : tie.Need-view-of-requires
+view-of-requires : tie.Need-view_of-view-requires
 view-of-requires c κs = search rules
 
-record-of-requires : tie.Need-record-of-requires
+record-of-requires : tie.Need-record_of-record-requires
 record-of-requires c κs = search rules
 
-change-requires : tie.Need-change-requires
+change-requires : tie.Need-change-changed-requires
 change-requires c κs = search rules
 
-enum-known-answer : tie.Need-enum-known-answer
+enum-known-answer : tie.Need-enum_known-answer
 enum-known-answer c = search rules
 
 refused-requires : tie.Need-refused-requires
@@ -47,48 +47,48 @@ refused-requires c κs =
     let g = a.before.before.before.before.before.before in
     let r = g.before.before.before in
     let s = r.before.before.before.before.before.before.args in
-    change-at g.change.ensures (change-place (action_of s.removal r.record_of.result) r.before.before.store_of.result r.before.view_of.result s.bytes.now s.joined.now s.left.now) _ _ a.answer.given.1
+    change-at g.change-changed.ensures (change-place (action_of s.removal r.record_of-record.result) r.before.before.store_of-store.result r.before.view_of-view.result s.bytes.now s.joined.now s.left.now) _ _ a.answer-1.given.1
 
-same_length : tie.Need-same-length
+same_length : tie.Need-shape_of-joined-in-Refused
 same_length c = search rules
 
-same-length-2 : tie.Need-same-length-2
+same-length-2 : tie.Need-shape_of-left-in-Refused
 same-length-2 c = search rules
 
-returns : tie.Need-returns
+returns : tie.Need-returns-in-Refused
 returns c =
     let a = c.before.before in
     let g = a.before.before.before.before.before.before in
     let r = g.before.before.before in
     let s = r.before.before.before.before.before.before.args in
-    let e = change-over r.before.before.store_of.ensures r.before.view_of.ensures r.record_of.ensures s.removal s.bytes.now s.joined.now s.left.now in
-    change-refused (g.change.ensures ∙ e) _ _ _ a.answer.given.1 c.refused.ensures
+    let e = change-over r.before.before.store_of-store.ensures r.before.view_of-view.ensures r.record_of-record.ensures s.removal s.bytes.now s.joined.now s.left.now in
+    change-refused (g.change-changed.ensures ∙ e) _ _ _ a.answer-1.given.1 c.refused.ensures
 
-enum_told : tie.Need-enum-told
+enum_told : tie.Need-enum_told-1
 enum_told c = search rules
 
-mul-result : tie.Need-overflow-mul-result
+mul-result : tie.Need-overflow_mul-result
 mul-result c = omega (arith, (few c).0, (few c).1)
 
-add-result : tie.Need-overflow-add-result
+add-result : tie.Need-overflow_add-result
 add-result c = omega (arith, (few c).0, (few c).1)
 
-same-length-3 : tie.Need-same-length-3
+same-length-3 : tie.Need-shape_of-joined
 same-length-3 c = search rules
 
-same-length-4 : tie.Need-same-length-4
+same-length-4 : tie.Need-shape_of-left
 same-length-4 c = search rules
 
-returns-2 : tie.Need-returns-2
+returns-2 : tie.Need-returns
 returns-2 c =
     let g = changed c in
     let r = g.before.before.before in
     let s = r.before.before.before.before.before.before.args in
     let e = change-over r.before.before.store_of.ensures r.before.view_of.ensures r.record_of.ensures s.removal s.bytes.now s.joined.now s.left.now in
-    change-done (g.change.ensures ∙ e) c.enum_told.given.1
+    change-done (g.change.ensures ∙ e) c.enum_told-1.given.1
 
-pub palmrummy-change-spec : {M : Type 1} → statement M
-palmrummy-change-spec =
+pub palmrummy_change_spec : {M : Type 1} → statement M
+palmrummy_change_spec =
     tie.close
     (tie.spec
     store-of-requires

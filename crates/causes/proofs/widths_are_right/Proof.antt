@@ -10,36 +10,36 @@ use Rattle.causes.specs.Causes.{widths_fit}
 use Rattle.causes.proofs.widths_are_right.Statement.{statement}
 use Rattle.causes.proofs.widths_are_right.Tie as tie
 
-abbrev invariant-loop : tie.invariant-loop
+abbrev invariant-loop : tie.invariant-loop-i
 invariant-loop widths i₀ i = (i ≤ 16) × (length widths ≡ 16) × (widths_fit widths ≡ widths_fit (drop i widths))
 
-abbrev decreases-loop : tie.decreases-loop
+abbrev decreases-loop : tie.decreases-loop-i
 decreases-loop widths i₀ i = 16 - i
 
-loop-holds : tie.Need-loop-init invariant-loop decreases-loop
+loop-holds : tie.Need-loop-i-init invariant-loop decreases-loop
 loop-holds c = (omega arith, search rules, refl)
 
-array-read-if1 : tie.Need-array-read-if1 invariant-loop decreases-loop
+array-read-if1 : tie.Need-bounds-widths-i invariant-loop decreases-loop
 array-read-if1 c = search rules
 
-returns : tie.Need-returns invariant-loop decreases-loop
+returns : tie.Need-returns-then-widths-i-gt-MAX_WIDTH invariant-loop decreases-loop
 returns c =
-    let ws = c.before.before.before.args.t1 in let i = c.before.before.loop.i in
-    sym (c.before.before.loop.invariant.2 ∙ all_drop _ ws i 0 (omega arith) ∙ rw (lt-leb _ 4 c.if1.true))
+    let ws = c.before.before.before.args.widths in let i = c.before.before.loop-i.i in
+    sym (c.before.before.loop-i.invariant.2 ∙ all_drop _ ws i 0 (omega arith) ∙ rw (lt-leb _ 4 c.if-widths-i-gt-MAX_WIDTH.true))
 
-add-i : tie.Need-overflow-add-i invariant-loop decreases-loop
+add-i : tie.Need-overflow_add-i invariant-loop decreases-loop
 add-i c = search rules
 
-loop-less : tie.Need-loop-smaller invariant-loop decreases-loop
+loop-less : tie.Need-loop-i-smaller invariant-loop decreases-loop
 loop-less c = search rules
 
-loop-again : tie.Need-loop-preserved invariant-loop decreases-loop
+loop-again : tie.Need-loop-i-preserved invariant-loop decreases-loop
 loop-again c =
-    let ws = c.before.before.before.args.t1 in let i = c.before.before.loop.i in
-    (omega arith, c.before.before.loop.invariant.1, c.before.before.loop.invariant.2 ∙ all_drop _ ws i 0 (omega arith) ∙ rw (le-leb _ 4 c.if1.false))
+    let ws = c.before.before.before.args.widths in let i = c.before.before.loop-i.i in
+    (omega arith, c.before.before.loop-i.invariant.1, c.before.before.loop-i.invariant.2 ∙ all_drop _ ws i 0 (omega arith) ∙ rw (le-leb _ 4 c.if-widths-i-gt-MAX_WIDTH.false))
 
-returns-2 : tie.Need-returns-2 invariant-loop decreases-loop
-returns-2 c = sym (c.before.loop.invariant.2 ∙ rw (drop_of_length-le c.before.before.args.t1 {i = c.before.loop.i} (omega arith)))
+returns-2 : tie.Need-returns invariant-loop decreases-loop
+returns-2 c = sym (c.before.loop-i.invariant.2 ∙ rw (drop_of_length-le c.before.before.args.widths {i = c.before.loop-i.i} (omega arith)))
 
-pub widths-are-right-spec : {M : Type 1} → statement M
-widths-are-right-spec = tie.close (tie.spec invariant-loop decreases-loop loop-holds array-read-if1 returns add-i loop-less loop-again returns-2)
+pub widths_are_right_spec : {M : Type 1} → statement M
+widths_are_right_spec = tie.close (tie.spec invariant-loop decreases-loop loop-holds array-read-if1 returns add-i loop-less loop-again returns-2)

@@ -9,63 +9,63 @@ use Rattle.host.proofs.palmrummy_answer.Tie as tie
 -- ---- what is known at a place
 
 -- The list is asked for.
-abbrev start : tie.After-find-bytes → tie.Start
+abbrev start : tie.After-find_bytes-listing → tie.Start
 start c = c.before.before.before.before
 
-abbrev bytes : tie.After-find-bytes → List ℕ
+abbrev bytes : tie.After-find_bytes-listing → List ℕ
 bytes c = (start c).args.input.now
 
-abbrev out : tie.After-find-bytes → List ℕ
+abbrev out : tie.After-find_bytes-listing → List ℕ
 out c = (start c).args.out.now
 
 -- The output after it.
-abbrev after : tie.After-find-bytes → List ℕ
-after c = c.find-bytes.new.1.0
+abbrev after : tie.After-find_bytes-listing → List ℕ
+after c = c.find_bytes-listing.new.1.0
 
 -- ---- the needs
 
-find-bytes-requires : tie.Need-find-bytes-requires
+find-bytes-requires : tie.Need-find_bytes-listing-requires
 find-bytes-requires c κs = search rules
 
-enum-known-answer : tie.Need-enum-known-answer
+enum-known-answer : tie.Need-enum_known-answer
 enum-known-answer c = search rules
 
 code-requires : tie.Need-code-requires
 code-requires c κs =
     let t = c.before in let f = t.before.before.before.before in
-    answer-place (bytes f) (out f) (after f) f.find-bytes.result f.find-bytes.ensures _ _ t.answer.given.1
+    answer-place (bytes f) (out f) (after f) f.find_bytes-listing.result f.find_bytes-listing.ensures _ _ t.answer-1.given.1
 
-cast-result : tie.Need-overflow-cast-result
+cast-result : tie.Need-overflow_cast-result
 cast-result c = search rules
 
-add-result : tie.Need-overflow-add-result
+add-result : tie.Need-overflow_add-result
 add-result c = search rules
 
-same_length : tie.Need-same-length
+same_length : tie.Need-shape_of-out-in-Refused
 same_length c = search rules
 
-returns : tie.Need-returns
+returns : tie.Need-returns-in-Refused
 returns c =
     let t = c.before.before in let f = t.before.before.before.before in
-    answer-refused (bytes f) (out f) (after f) f.find-bytes.result f.find-bytes.ensures _ _ _ t.answer.given.1 c.code.ensures.0
+    answer-refused (bytes f) (out f) (after f) f.find_bytes-listing.result f.find_bytes-listing.ensures _ _ _ t.answer-1.given.1 c.code.ensures.0
 
-enum_told : tie.Need-enum-told
+enum_told : tie.Need-enum_told-1
 enum_told c = search rules
 
-same-length-2 : tie.Need-same-length-2
+same-length-2 : tie.Need-shape_of-out-then-listing
 same-length-2 c = search rules
 
-returns-2 : tie.Need-returns-2
-returns-2 c = let f = c.before.before.before.before.before in answer-endless (bytes f) (out f) (after f) f.find-bytes.result f.find-bytes.ensures c.before.enum_told.given.1 c.if1.true
+returns-2 : tie.Need-returns-then-listing
+returns-2 c = let f = c.before.before.before.before.before in answer-endless (bytes f) (out f) (after f) f.find_bytes-listing.result f.find_bytes-listing.ensures c.before.enum_told-1.given.1 c.if-listing.true
 
-same-length-3 : tie.Need-same-length-3
+same-length-3 : tie.Need-shape_of-out
 same-length-3 c = search rules
 
-returns-3 : tie.Need-returns-3
-returns-3 c = let f = c.before.before.before.before.before in answer-listed (bytes f) (out f) (after f) f.find-bytes.result f.find-bytes.ensures c.before.enum_told.given.1 c.if1.false
+returns-3 : tie.Need-returns
+returns-3 c = let f = c.before.before.before.before.before in answer-listed (bytes f) (out f) (after f) f.find_bytes-listing.result f.find_bytes-listing.ensures c.before.enum_told-1.given.1 c.if-listing.false
 
-pub palmrummy-answer-spec : {M : Type 1} → statement M
-palmrummy-answer-spec =
+pub palmrummy_answer_spec : {M : Type 1} → statement M
+palmrummy_answer_spec =
     tie.close
     (tie.spec
     find-bytes-requires

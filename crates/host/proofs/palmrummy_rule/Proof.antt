@@ -6,39 +6,39 @@ use Rattle.host.specs.Entry.Laws.{rule-refused, rule-packed}
 use Rattle.host.proofs.palmrummy_rule.Statement.{statement}
 use Rattle.host.proofs.palmrummy_rule.Tie as tie
 
-pack-requires : tie.Need-pack-requires
+pack-requires : tie.Need-pack-p-requires
 pack-requires c κs = search rules
 
-enum-known-answer : tie.Need-enum-known-answer
+enum-known-answer : tie.Need-enum_known-answer
 enum-known-answer c = search rules
 
-cast-result : tie.Need-overflow-cast-result
+cast-result : tie.Need-overflow_cast-result
 cast-result c = search rules
 
-mul-result : tie.Need-overflow-mul-result
+mul-result : tie.Need-overflow_mul-result
 mul-result c = search rules
 
-add-result : tie.Need-overflow-add-result
+add-result : tie.Need-overflow_add-result
 add-result c = search rules
 
-returns : tie.Need-returns
+returns : tie.Need-returns-in-Refused
 returns c =
     let t = c.before.before in let p = t.before.before in let a = p.before.before.args in
-    rule-refused a.text.now a.out.now a.place.now p.pack.result p.pack.ensures _ _ t.answer.given.1
+    rule-refused a.text.now a.out.now a.place.now p.pack-p.result p.pack-p.ensures _ _ t.answer-1.given.1
 
-enum_told : tie.Need-enum-told
+enum_told : tie.Need-enum_told-1
 enum_told c = search rules
 
-cast-result-2 : tie.Need-overflow-cast-result-2
+cast-result-2 : tie.Need-overflow_cast-result-2
 cast-result-2 c =
     let p = c.before.before.before.before in
-    omega (arith, reply-short p.before.before.args.text.now p.pack.result p.pack.ensures)
+    omega (arith, reply-short p.before.before.args.text.now p.pack-p.result p.pack-p.ensures)
 
-returns-2 : tie.Need-returns-2
+returns-2 : tie.Need-returns
 returns-2 c =
     let t = c.before.before in let p = t.before.before in let a = p.before.before.args in
-    rule-packed a.text.now a.out.now a.place.now p.pack.result p.pack.ensures t.enum_told.given.1
+    rule-packed a.text.now a.out.now a.place.now p.pack-p.result p.pack-p.ensures t.enum_told-1.given.1
 
-pub palmrummy-rule-spec : {M : Type 1} → statement M
-palmrummy-rule-spec =
+pub palmrummy_rule_spec : {M : Type 1} → statement M
+palmrummy_rule_spec =
     tie.close (tie.spec pack-requires enum-known-answer cast-result mul-result add-result returns enum_told cast-result-2 returns-2)

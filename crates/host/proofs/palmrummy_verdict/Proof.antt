@@ -8,43 +8,43 @@ use Rattle.host.specs.Entry.Laws.{verdict-refused, verdict-place, verdict-writte
 use Rattle.host.proofs.palmrummy_verdict.Statement.{statement}
 use Rattle.host.proofs.palmrummy_verdict.Tie as tie
 
-constant-fits : (c : tie.After-judge) (i : ℕ) → Fits w32 (get_or c.judge.result.form.constants i 0)
+constant-fits : (c : tie.After-judge-v) (i : ℕ) → Fits w32 (get_or c.judge.result.form.constants i 0)
 constant-fits c i = search rules
 
-judge-requires : tie.Need-judge-requires
+judge-requires : tie.Need-judge-v-requires
 judge-requires c κs = search rules
 
-enum-known-answer : tie.Need-enum-known-answer
+enum-known-answer : tie.Need-enum_known-answer
 enum-known-answer c = search rules
 
 code-requires : tie.Need-code-requires
 code-requires c κs =
     let t = c.before in let j = t.before.before in let a = j.before.before.args in
-    verdict-place a.input.now a.out.now j.judge.result j.judge.ensures _ _ t.answer.given.1
+    verdict-place a.input.now a.out.now j.judge-v.result j.judge-v.ensures _ _ t.answer-1.given.1
 
-add-result : tie.Need-overflow-add-result
+add-result : tie.Need-overflow_add-result
 add-result c = search rules
 
-returns : tie.Need-returns
+returns : tie.Need-returns-in-Refused
 returns c =
     let t = c.before.before in let j = t.before.before in let a = j.before.before.args in
-    verdict-refused a.input.now a.out.now j.judge.result j.judge.ensures _ _ _ t.answer.given.1 c.code.ensures.0
+    verdict-refused a.input.now a.out.now j.judge-v.result j.judge-v.ensures _ _ _ t.answer-1.given.1 c.code.ensures.0
 
-enum_told : tie.Need-enum-told
+enum_told : tie.Need-enum_told-1
 enum_told c = search rules
 
 written-requires : tie.Need-written-requires
 written-requires c κs =
     let j = c.before.before in let a = j.before.before.args in
-    verdict-writable a.input.now j.judge.result j.judge.ensures (λ i. (constant-fits j i).fits) c.enum_told.given.1
+    verdict-writable a.input.now j.judge-v.result j.judge-v.ensures (λ i. (constant-fits j i).fits) c.enum_told-1.given.1
 
-returns-2 : tie.Need-returns-2
+returns-2 : tie.Need-returns
 returns-2 c =
     let t = c.before in let j = t.before.before in let a = j.before.before.args in
-    verdict-written a.input.now a.out.now j.judge.result j.judge.ensures _ t.enum_told.given.1 c.written.ensures
+    verdict-written a.input.now a.out.now j.judge-v.result j.judge-v.ensures _ t.enum_told-1.given.1 c.written.ensures
 
-pub palmrummy-verdict-spec : {M : Type 1} → statement M
-palmrummy-verdict-spec =
+pub palmrummy_verdict_spec : {M : Type 1} → statement M
+palmrummy_verdict_spec =
     tie.close
     (tie.spec
     judge-requires

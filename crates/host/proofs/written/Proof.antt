@@ -60,11 +60,11 @@ module _ (v : Verdict) where
 -- ---- what is known at a place
 
 -- The flag is chosen.
-abbrev start : tie.Joined1 → tie.Start
+abbrev start : tie.Joined-v → tie.Start
 start c = c.before.before.before.before
 
-flag-chosen : (c : tie.Joined1) → c.if1.reply ≡ flag (start c).args.v.safe
-flag-chosen c = ⊎_elim (λ w. w.1 ∙ ap flag (sym w.0.taken)) (λ w. w.1 ∙ ap flag (sym w.0.left)) c.if1.branch
+flag-chosen : (c : tie.Joined-v) → c.if1.reply ≡ flag (start c).args.v.safe
+flag-chosen c = ⊎_elim (λ w. w.1 ∙ ap flag (sym w.0.taken)) (λ w. w.1 ∙ ap flag (sym w.0.left)) c.if-v.branch
 
 variables-long : (c : tie.Start) → length c.args.v.columns.variables ≡ 4
 variables-long c = search rules
@@ -74,94 +74,94 @@ generators-long c = search rules
 
 -- ---- the needs
 
-array-write-reply : tie.Need-array-write-reply
+array-write-reply : tie.Need-bounds-reply-0
 array-write-reply c = search rules
 
-cast-reply : tie.Need-overflow-cast-reply
+cast-reply : tie.Need-overflow_cast-reply
 cast-reply c = search rules
 
-array-write-reply-2 : tie.Need-array-write-reply-2
+array-write-reply-2 : tie.Need-bounds-reply-1
 array-write-reply-2 c = search rules
 
-array-read-reply : tie.Need-array-read-reply
+array-read-reply : tie.Need-bounds-variables-0
 array-read-reply c = search rules
 
-array-write-reply-3 : tie.Need-array-write-reply-3
+array-write-reply-3 : tie.Need-bounds-reply-2
 array-write-reply-3 c = search rules
 
-array-read-reply-2 : tie.Need-array-read-reply-2
+array-read-reply-2 : tie.Need-bounds-variables-1
 array-read-reply-2 c = search rules
 
-array-write-reply-4 : tie.Need-array-write-reply-4
+array-write-reply-4 : tie.Need-bounds-reply-3
 array-write-reply-4 c = search rules
 
-array-read-reply-3 : tie.Need-array-read-reply-3
+array-read-reply-3 : tie.Need-bounds-variables-2
 array-read-reply-3 c = search rules
 
-array-write-reply-5 : tie.Need-array-write-reply-5
+array-write-reply-5 : tie.Need-bounds-reply-4
 array-write-reply-5 c = search rules
 
-array-read-reply-4 : tie.Need-array-read-reply-4
+array-read-reply-4 : tie.Need-bounds-variables-3
 array-read-reply-4 c = search rules
 
-array-write-reply-6 : tie.Need-array-write-reply-6
+array-write-reply-6 : tie.Need-bounds-reply-5
 array-write-reply-6 c = search rules
 
-array-read-long : tie.Need-array-read-long
+array-read-long : tie.Need-bounds-generators-0
 array-read-long c = search rules
 
-slice-aggregate-long : tie.Need-slice-aggregate-long
+slice-aggregate-long : tie.Need-slice_bounds-long-end
 slice-aggregate-long c = search rules
 
 long-requires : tie.Need-long-requires
 long-requires c κs = search rules
 
-array-read-long-2 : tie.Need-array-read-long-2
+array-read-long-2 : tie.Need-bounds-generators-1
 array-read-long-2 c = search rules
 
-slice-aggregate-long-2 : tie.Need-slice-aggregate-long-2
+slice-aggregate-long-2 : tie.Need-slice_bounds-long-end-2
 slice-aggregate-long-2 c = search rules
 
 long-requires-2 : tie.Need-long-requires-2
 long-requires-2 c κs = search rules
 
-array-read-long-3 : tie.Need-array-read-long-3
+array-read-long-3 : tie.Need-bounds-generators-2
 array-read-long-3 c = search rules
 
-slice-aggregate-long-3 : tie.Need-slice-aggregate-long-3
+slice-aggregate-long-3 : tie.Need-slice_bounds-long-end-3
 slice-aggregate-long-3 c = search rules
 
 long-requires-3 : tie.Need-long-requires-3
 long-requires-3 c κs = search rules
 
-array-read-long-4 : tie.Need-array-read-long-4
+array-read-long-4 : tie.Need-bounds-generators-3
 array-read-long-4 c = search rules
 
-slice-aggregate-long-4 : tie.Need-slice-aggregate-long-4
+slice-aggregate-long-4 : tie.Need-slice_bounds-long-end-4
 slice-aggregate-long-4 c = search rules
 
 long-requires-4 : tie.Need-long-requires-4
 long-requires-4 c κs = search rules
 
-cast-reply-2 : tie.Need-overflow-cast-reply-2
+cast-reply-2 : tie.Need-overflow_cast-reply-2
 cast-reply-2 c = search rules
 
-array-write-reply-7 : tie.Need-array-write-reply-7
+array-write-reply-7 : tie.Need-bounds-reply-38
 array-write-reply-7 c = search rules
 
-cast-reply-3 : tie.Need-overflow-cast-reply-3
+cast-reply-3 : tie.Need-overflow_cast-reply-3
 cast-reply-3 c = search rules
 
-array-write-reply-8 : tie.Need-array-write-reply-8
+array-write-reply-8 : tie.Need-bounds-reply-39
 array-write-reply-8 c = search rules
 
-slice-aggregate-long-5 : tie.Need-slice-aggregate-long-5
+slice-aggregate-long-5 : tie.Need-slice_bounds-long-end-5
 slice-aggregate-long-5 c = search rules
 
 long-requires-5 : tie.Need-long-requires-5
 long-requires-5 c κs = simp length-set (omega arith)
 
-slice-aggregate-query : tie.Need-slice-aggregate-query
+slice-aggregate-query : tie.Need-slice_bounds-query-end
 slice-aggregate-query c = search rules
 
 query-requires : tie.Need-query-requires
@@ -180,18 +180,18 @@ returns c =
     let v = s.args.v in
     let e₆ = ap (λ b. overlay 0 (after-flag v b) zeros) (flag-chosen j) in
     let e₁₄ = l₁.long.ensures ∙ front-run (until-6 v) zeros _ 6 e₆ refl (generators v 0) in
-    let e₂₂ = l₂.long2.ensures ∙ front-run (until-14 v) zeros _ 14 e₁₄ refl (generators v 1) in
-    let e₃₀ = l₃.long3.ensures ∙ front-run (until-22 v) zeros _ 22 e₂₂ refl (generators v 2) in
-    let e₃₈ = l₄.long4.ensures ∙ front-run (until-30 v) zeros _ 30 e₃₀ refl (generators v 3) in
+    let e₂₂ = l₂.long-2.ensures ∙ front-run (until-14 v) zeros _ 14 e₁₄ refl (generators v 1) in
+    let e₃₀ = l₃.long-3.ensures ∙ front-run (until-22 v) zeros _ 22 e₂₂ refl (generators v 2) in
+    let e₃₈ = l₄.long-4.ensures ∙ front-run (until-30 v) zeros _ 30 e₃₀ refl (generators v 3) in
     let e₄₀ = front-run (until-38 v) zeros _ 38 e₃₈ refl (short_bytes v.ungenerated) in
-    let e₄₈ = l₅.long5.ensures ∙ front-run (until-40 v) zeros _ 40 e₄₀ refl (long_bytes v.unranged) in
+    let e₄₈ = l₅.long-5.ensures ∙ front-run (until-40 v) zeros _ 40 e₄₀ refl (long_bytes v.unranged) in
     e.query.ensures
     ∙ front-run (until-48 v) zeros _ 48 e₄₈ refl (form_bytes v.form)
     ∙ front-padded verdict_size (until-48 v ++ form_bytes v.form) (omega (arith, length-query v.form s.pre.1))
     ∙ ap (λ bs. padded verdict_size 0 (bs ++ form_bytes v.form)) (all-fields v (variables-long s) (generators-long s))
 
-pub written-spec : {M : Type 1} → statement M
-written-spec =
+pub written_spec : {M : Type 1} → statement M
+written_spec =
     tie.close
     (tie.spec
     array-write-reply

@@ -18,50 +18,50 @@ places : (s : tie.Start) → length s.args.columns.variables ≡ 4
 places s = search rules
 
 -- The line of the verdict is written.
-module _ (c : tie.After-verdict) where
+module _ (c : tie.After-verdict-at) where
   abbrev start : tie.Start
-  start = c.before.before.before
+  start = c
 
   abbrev judged : List ℕ
   judged = line (cond start.args.safe word_safe word_unsafe) []
 
-  ends : c.verdict.result ≡ length judged
-  ends = let a = start.args in omega (arith, wrote-end 0 c.verdict.result judged a.out.now c.verdict.new.1.0 c.verdict.ensures)
+  ends : c.verdict-at.result ≡ length judged
+  ends = let a = start.args in omega (arith, wrote-end 0 c.verdict-at.result judged a.out.now c.verdict-at.new.1.0 c.verdict-at.ensures)
 
-  kept : length c.verdict.new.1.0 ≡ length start.args.out.now
-  kept = let a = start.args in wrote-length 0 c.verdict.result judged a.out.now c.verdict.new.1.0 c.verdict.ensures
+  kept : length c.verdict-at.new.1.0 ≡ length start.args.out.now
+  kept = let a = start.args in wrote-length 0 c.verdict-at.result judged a.out.now c.verdict-at.new.1.0 c.verdict-at.ensures
 
-verdict-requires : tie.Need-verdict-requires
+verdict-requires : tie.Need-verdict-at-requires
 verdict-requires c κs = search rules
 
-array-read-t12 : tie.Need-array-read-t12
+array-read-t12 : tie.Need-bounds-variables-0
 array-read-t12 c = search rules
 
-cast-t13 : tie.Need-overflow-cast-t13
+cast-t13 : tie.Need-overflow_cast-numbers
 cast-t13 c = search rules
 
-array-read-t16 : tie.Need-array-read-t16
+array-read-t16 : tie.Need-bounds-variables-1
 array-read-t16 c = search rules
 
-cast-t17 : tie.Need-overflow-cast-t17
+cast-t17 : tie.Need-overflow_cast-numbers-2
 cast-t17 c = search rules
 
-array-read-t20 : tie.Need-array-read-t20
+array-read-t20 : tie.Need-bounds-variables-2
 array-read-t20 c = search rules
 
-cast-t21 : tie.Need-overflow-cast-t21
+cast-t21 : tie.Need-overflow_cast-numbers-3
 cast-t21 c = search rules
 
-array-read-t24 : tie.Need-array-read-t24
+array-read-t24 : tie.Need-bounds-variables-3
 array-read-t24 c = search rules
 
-cast-t25 : tie.Need-overflow-cast-t25
+cast-t25 : tie.Need-overflow_cast-numbers-4
 cast-t25 c = search rules
 
-slice-aggregate-line : tie.Need-slice-aggregate-line
+slice-aggregate-line : tie.Need-slice_bounds-line-end
 slice-aggregate-line c = search rules
 
-slice-aggregate-line-2 : tie.Need-slice-aggregate-line-2
+slice-aggregate-line-2 : tie.Need-slice_bounds-line-end-2
 slice-aggregate-line-2 c = search rules
 
 line-requires : tie.Need-line-requires
@@ -70,15 +70,15 @@ line-requires c κs =
     let l = length-verdict (start v).args.safe in
     (omega arith, omega arith, omega arith, omega (arith, ends v, kept v, l), omega (arith, ends v, l))
 
-same_length : tie.Need-same-length
+same_length : tie.Need-shape_of-out
 same_length c = search rules
 
 returns : tie.Need-returns
 returns c =
     let d = c.before.before in let v = d.before.before.before.before.before.before.before in let a = (start v).args in
-    wrote_then 0 v.verdict.result d.line.result (judged v) (line word_columns (take a.columns.count a.columns.variables)) a.out.now v.verdict.new.1.0 d.line.new.1.1.1.1.0
-    v.verdict.ensures
-    (d.line.ensures ∙ ap (λ xs. wrote v.verdict.result (line word_columns (take a.columns.count xs)) v.verdict.new.1.0) (sym (four-of a.columns.variables 0 (places (start v)))))
+    wrote_then 0 v.verdict-at.result d.line.result (judged v) (line word_columns (take a.columns.count a.columns.variables)) a.out.now v.verdict-at.new.1.0 d.line.new.1.1.1.1.0
+    v.verdict-at.ensures
+    (d.line.ensures ∙ ap (λ xs. wrote v.verdict-at.result (line word_columns (take a.columns.count xs)) v.verdict-at.new.1.0) (sym (four-of a.columns.variables 0 (places (start v)))))
 
 pub head_spec : {M : Type 1} → statement M
 head_spec =

@@ -45,56 +45,56 @@ module _ (xs : List ℕ) (k i from at end : ℕ) (out₀ out : List ℕ) (f : fr
   kept : length out ≡ length out₀
   kept = wrote-length at end (lines xs k i) out₀ out w
 
-abbrev invariant-loop : tie.invariant-loop
+abbrev invariant-loop : tie.invariant-loop-i
 invariant-loop numbers k n out₀ at word i₀ from₀ end₀ out i from end = (i ≤ n) × (from ≡ i * k) × ((end, out) ≡ wrote at (lines numbers k i) out₀)
 
-abbrev decreases-loop : tie.decreases-loop
+abbrev decreases-loop : tie.decreases-loop-i
 decreases-loop numbers k n out₀ at word i₀ from₀ end₀ out i from end = n - i
 
-loop-holds : tie.Need-loop-init invariant-loop decreases-loop
+loop-holds : tie.Need-loop-i-init invariant-loop decreases-loop
 loop-holds c = let a = c.before.before.args in (omega arith, sym (zero-mul a.k), wrote_none a.at a.out.now)
 
-slice-aggregate-line : tie.Need-slice-aggregate-line invariant-loop decreases-loop
+slice-aggregate-line : tie.Need-slice_bounds-line-end invariant-loop decreases-loop
 slice-aggregate-line c = search rules
 
-line-requires : tie.Need-line-requires invariant-loop decreases-loop
+line-requires : tie.Need-line-end-requires invariant-loop decreases-loop
 line-requires c κs =
-    let l = c.before.before.before.loop in let a = c.before.before.before.before.before.before.args in
+    let l = c.before.before.before.loop-i in let a = c.before.before.before.before.before.before.args in
     let b = row-end a.k l.i a.n (omega arith) in
     let e = ends a.numbers.now a.k l.i l.from a.at l.end a.out.now l.out l.invariant.1 l.invariant.2 (omega (arith, b)) in
     let h = kept a.numbers.now a.k l.i l.from a.at l.end a.out.now l.out l.invariant.1 l.invariant.2 in
     (omega arith, omega (arith, b, l.invariant.1), omega (arith, b), omega (arith, b, e, h), omega (arith, b, e))
 
-add-from : tie.Need-overflow-add-from invariant-loop decreases-loop
+add-from : tie.Need-overflow_add-from invariant-loop decreases-loop
 add-from c =
-    let d = c.before.before in let l = d.before.before.before.before.loop in let a = d.before.before.before.before.before.before.before.args in
+    let d = c.before.before in let l = d.before.before.before.before.loop-i in let a = d.before.before.before.before.before.before.before.args in
     let b = row-end a.k l.i a.n (omega arith) in
     record { fits = omega (arith, b, l.invariant.1) }
 
-add-i : tie.Need-overflow-add-i invariant-loop decreases-loop
+add-i : tie.Need-overflow_add-i invariant-loop decreases-loop
 add-i c = search rules
 
-loop-less : tie.Need-loop-smaller invariant-loop decreases-loop
+loop-less : tie.Need-loop-i-smaller invariant-loop decreases-loop
 loop-less c = search rules
 
-loop-again : tie.Need-loop-preserved invariant-loop decreases-loop
+loop-again : tie.Need-loop-i-preserved invariant-loop decreases-loop
 loop-again c =
-    let d = c.before.before in let l = d.before.before.before.before.loop in let a = d.before.before.before.before.before.before.before.args in
-    (omega arith, position-next a.k l.i l.from l.invariant.1, next a.numbers.now a.k l.i l.from a.at l.end a.out.now l.out l.invariant.1 l.invariant.2 d.line.result d.line.new.1.1.1.1.0 d.line.ensures)
+    let d = c.before.before in let l = d.before.before.before.before.loop-i in let a = d.before.before.before.before.before.before.before.args in
+    (omega arith, position-next a.k l.i l.from l.invariant.1, next a.numbers.now a.k l.i l.from a.at l.end a.out.now l.out l.invariant.1 l.invariant.2 d.line-end.result d.line-end.new.1.1.1.1.0 d.line-end.ensures)
 
-same_length : tie.Need-same-length invariant-loop decreases-loop
+same_length : tie.Need-shape_of-out invariant-loop decreases-loop
 same_length c =
-    let l = c.before.loop in let a = c.before.before.before.before.args in
+    let l = c.before.loop-i in let a = c.before.before.before.before.args in
     kept a.numbers.now a.k l.i l.from a.at l.end a.out.now l.out l.invariant.1 l.invariant.2
 
 returns : tie.Need-returns invariant-loop decreases-loop
 returns c =
-    let l = c.before.loop in let a = c.before.before.before.before.args in
+    let l = c.before.loop-i in let a = c.before.before.before.before.args in
     let e : l.i ≡ a.n = omega arith in
     l.invariant.2 ∙ ap (λ m. wrote a.at (lines a.numbers.now a.k m) a.out.now) e
 
-pub rows-spec : {M : Type 1} → statement M
-rows-spec =
+pub rows_spec : {M : Type 1} → statement M
+rows_spec =
     tie.close
     (tie.spec
     invariant-loop

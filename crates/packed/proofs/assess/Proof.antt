@@ -12,40 +12,40 @@ use Rattle.packed.proofs.assess.Tie as tie
 -- ---- what is known at a place
 
 -- The input is taken.
-abbrev bytes : tie.After-take → List ℕ
+abbrev bytes : tie.After-take-input → List ℕ
 bytes c = c.before.before.args.bytes.now
 
-constant-fits : (c : tie.After-take) (k : ℕ) → Fits w32 (get_or c.take.result.query.constants k 0)
+constant-fits : (c : tie.After-take-input) (k : ℕ) → Fits w32 (get_or c.take.result.query.constants k 0)
 constant-fits c k = search rules
 
 -- It is accepted.
-abbrev taken : tie.After-enum-told → tie.After-take
+abbrev taken : tie.In_default → tie.After-take-input
 taken c = c.before.before.before.before.before
 
 -- ---- the needs
 
-take-requires : tie.Need-take-requires
+take-requires : tie.Need-take-input-requires
 take-requires c κs = search rules
 
-enum-known-answer : tie.Need-enum-known-answer
+enum-known-answer : tie.Need-enum_known-answer
 enum-known-answer c = search rules
 
 refused-requires : tie.Need-refused-requires
 refused-requires c κs = search rules
 
-returns : tie.Need-returns
+returns : tie.Need-returns-in-Refused
 returns c =
     let t = c.before.before in let i = t.before.before.before.before.before in
-    refused-input (bytes i) i.take.result i.take.ensures _ _ t.answer.given.1 c.refused.result c.refused.ensures
+    refused-input (bytes i) i.take-input.result i.take-input.ensures _ _ t.answer-1.given.1 c.refused.result c.refused.ensures
 
-enum_told : tie.Need-enum-told
+enum_told : tie.Need-enum_told-1
 enum_told c = search rules
 
 judged-requires : tie.Need-judged-requires
-judged-requires c κs = let i = taken c in judged-asks (bytes i) i.take.result i.take.ensures c.enum_told.given.1 (λ k. (constant-fits i k).fits)
+judged-requires c κs = let i = taken c in judged-asks (bytes i) i.take.result i.take.ensures c.enum_told-1.given.1 (λ k. (constant-fits i k).fits)
 
-returns-2 : tie.Need-returns-2
-returns-2 c = let t = c.before in let i = taken t in judged-input (bytes i) i.take.result i.take.ensures t.enum_told.given.1 c.judged.result c.judged.ensures
+returns-2 : tie.Need-returns
+returns-2 c = let t = c.before in let i = taken t in judged-input (bytes i) i.take.result i.take.ensures t.enum_told-1.given.1 c.judged.result c.judged.ensures
 
-pub assess-spec : {M : Type 1} → statement M
-assess-spec = tie.close (tie.spec take-requires enum-known-answer refused-requires returns enum_told judged-requires returns-2)
+pub assess_spec : {M : Type 1} → statement M
+assess_spec = tie.close (tie.spec take-requires enum-known-answer refused-requires returns enum_told judged-requires returns-2)

@@ -14,57 +14,57 @@ use Rattle.packed.proofs.find_bytes.Tie as tie
 -- ---- what is known at a place
 
 -- The input is assessed.
-abbrev start : tie.After-assess → tie.Start
+abbrev start : tie.After-assess-assessment → tie.Start
 start c = c.before.before.before
 
-abbrev bytes : tie.After-assess → List ℕ
+abbrev bytes : tie.After-assess-assessment → List ℕ
 bytes c = (start c).args.bytes.now
 
-abbrev out : tie.After-assess → List ℕ
+abbrev out : tie.After-assess-assessment → List ℕ
 out c = (start c).args.out.now
 
-constant-fits : (c : tie.After-assess) (k : ℕ) → Fits w32 (get_or c.assess.result.verdict.form.constants k 0)
+constant-fits : (c : tie.After-assess-assessment) (k : ℕ) → Fits w32 (get_or c.assess.result.verdict.form.constants k 0)
 constant-fits c k = search rules
 
 -- It is accepted.
-abbrev assessed : tie.After-enum-told → tie.After-assess
+abbrev assessed : tie.In_default → tie.After-assess-assessment
 assessed c = c.before.before.before
 
 -- ---- the needs
 
-assess-requires : tie.Need-assess-requires
+assess-requires : tie.Need-assess-assessment-requires
 assess-requires c κs = search rules
 
-enum-known-answer : tie.Need-enum-known-answer
+enum-known-answer : tie.Need-enum_known-answer
 enum-known-answer c = search rules
 
-refused-listing-requires : tie.Need-refused-listing-requires
+refused-listing-requires : tie.Need-refused_listing-requires
 refused-listing-requires c κs = search rules
 
-returns : tie.Need-returns
+returns : tie.Need-returns-in-Refused
 returns c =
     let t = c.before.before in let a = t.before.before.before in
-    ap (λ l. (l, out a)) c.refused-listing.ensures ∙ refused-list (bytes a) a.assess.result a.assess.ensures _ _ t.answer.given.1 front_bytes (length (out a) / 4) (out a)
+    ap (λ l. (l, out a)) c.refused_listing.ensures ∙ refused-list (bytes a) a.assess-assessment.result a.assess-assessment.ensures _ _ t.answer-1.given.1 front_bytes (length (out a) / 4) (out a)
 
-enum_told : tie.Need-enum-told
+enum_told : tie.Need-enum_told-1
 enum_told c = search rules
 
-evaluate-bytes-requires : tie.Need-evaluate-bytes-requires
+evaluate-bytes-requires : tie.Need-evaluate_bytes-found-requires
 evaluate-bytes-requires c κs =
     let e = c.before.before.before.before in let a = assessed e in
-    evaluable (bytes a) a.assess.result a.assess.ensures e.enum_told.given.1 (λ k. (constant-fits a k).fits)
+    evaluable (bytes a) a.assess.result a.assess.ensures e.enum_told-1.given.1 (λ k. (constant-fits a k).fits)
 
 list-requires : tie.Need-list-requires
 list-requires c κs = search rules
 
-same_length : tie.Need-same-length
+same_length : tie.Need-shape_of-out
 same_length c = search rules
 
-returns-2 : tie.Need-returns-2
+returns-2 : tie.Need-returns
 returns-2 c =
-    let f = c.before.before.before in let e = f.before.before.before.before.before in let a = assessed e in let after = f.evaluate-bytes.new.1.1.1.0 in
+    let f = c.before.before.before in let e = f.before.before.before.before.before in let a = assessed e in let after = f.evaluate_bytes-found.new.1.1.1.0 in
     ap (λ l. (l, after)) c.list.ensures
-    ∙ list-given (bytes a) a.assess.result a.assess.ensures e.enum_told.given.1 (λ k. (constant-fits a k).fits) front_bytes (length (out a) / 4) (out a) f.evaluate-bytes.result after f.evaluate-bytes.ensures
+    ∙ list-given (bytes a) a.assess.result a.assess.ensures e.enum_told-1.given.1 (λ k. (constant-fits a k).fits) front_bytes (length (out a) / 4) (out a) f.evaluate_bytes-found.result after f.evaluate_bytes-found.ensures
 
-pub find-bytes-spec : {M : Type 1} → statement M
-find-bytes-spec = tie.close (tie.spec assess-requires enum-known-answer refused-listing-requires returns enum_told evaluate-bytes-requires list-requires same_length returns-2)
+pub find_bytes_spec : {M : Type 1} → statement M
+find_bytes_spec = tie.close (tie.spec assess-requires enum-known-answer refused-listing-requires returns enum_told evaluate-bytes-requires list-requires same_length returns-2)

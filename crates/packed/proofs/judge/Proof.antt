@@ -4,11 +4,11 @@ use mathlib.Core.Path.{ap}
 use Rattle.packed.proofs.judge.Statement.{statement}
 use Rattle.packed.proofs.judge.Tie as tie
 
-assess-requires : tie.Need-assess-requires
+assess-requires : tie.Need-assess-assessment-requires
 assess-requires c κs = search rules
 
 returns : tie.Need-returns
-returns c = ap (λ a. a.verdict) c.before.assess.ensures
+returns c = ap (λ a. a.verdict) c.before.assess-assessment.ensures
 
-pub judge-spec : {M : Type 1} → statement M
-judge-spec = tie.close (tie.spec assess-requires returns)
+pub judge_spec : {M : Type 1} → statement M
+judge_spec = tie.close (tie.spec assess-requires returns)

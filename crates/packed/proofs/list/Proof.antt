@@ -5,22 +5,22 @@ use Rattle.packed.specs.Code.Packed.{listing_by}
 use Rattle.packed.proofs.list.Statement.{statement}
 use Rattle.packed.proofs.list.Tie as tie
 
-enum-known-answer : tie.Need-enum-known-answer
+enum-known-answer : tie.Need-enum_known-answer
 enum-known-answer c = search rules
 
-refused-listing-requires : tie.Need-refused-listing-requires
+refused-listing-requires : tie.Need-refused_listing-requires
 refused-listing-requires c κs = search rules
 
-returns : tie.Need-returns
+returns : tie.Need-returns-in-Refused
 returns c =
     let t = c.before.before in let a = t.before.before.args in
-    c.refused-listing.ensures ∙ ap (λ r. listing_by r a.found a.safe a.columns) (sym t.answer.given.1)
+    c.refused_listing.ensures ∙ ap (λ r. listing_by r a.found a.safe a.columns) (sym t.answer-1.given.1)
 
-enum_told : tie.Need-enum-told
+enum_told : tie.Need-enum_told-1
 enum_told c = search rules
 
-returns-2 : tie.Need-returns-2
-returns-2 c = let a = c.before.before.args in ap (λ r. listing_by r a.found a.safe a.columns) (sym c.enum_told.given.1)
+returns-2 : tie.Need-returns
+returns-2 c = let a = c.before.before.args in ap (λ r. listing_by r a.found a.safe a.columns) (sym c.enum_told-1.given.1)
 
-pub list-spec : {M : Type 1} → statement M
-list-spec = tie.close (tie.spec enum-known-answer refused-listing-requires returns enum_told returns-2)
+pub list_spec : {M : Type 1} → statement M
+list_spec = tie.close (tie.spec enum-known-answer refused-listing-requires returns enum_told returns-2)

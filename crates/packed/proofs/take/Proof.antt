@@ -35,123 +35,123 @@ assembled f r = record { answer = Done; store = f.store; query = r.query; column
 -- ---- what is known at a place
 
 -- The input is measured.
-abbrev bytes : tie.After-measure → List ℕ
+abbrev bytes : tie.After-measure-extent → List ℕ
 bytes c = c.before.before.args.bytes.now
 
 -- It is whole.
-abbrev measured : tie.Else1 → tie.After-measure
+abbrev measured : tie.Else-not-extent → tie.After-measure-extent
 measured c = c.before.before
 
-whole : (c : tie.Else1) → is_whole (bytes (measured c)) ≡ true
+whole : (c : tie.Else-not-extent) → is_whole (bytes (measured c)) ≡ true
 whole c =
     let m = measured c in
-    sym (extent-whole (bytes m)) ∙ ap (λ e. e.whole) (sym m.measure.ensures) ∙ not-false m.measure.result.whole c.if1.false
+    sym (extent-whole (bytes m)) ∙ ap (λ e. e.whole) (sym m.measure.ensures) ∙ not-false m.measure.result.whole c.if-not-extent.false
 
-heads : (c : tie.Else1) → (measured c).measure.result.head ≡ head_in (bytes (measured c))
+heads : (c : tie.Else-not-extent) → (measured c).measure.result.head ≡ head_in (bytes (measured c))
 heads c = let m = measured c in ap (λ e. e.head) m.measure.ensures ∙ extent-head (bytes m) (whole c)
 
-counts : (c : tie.Else1) → (measured c).measure.result.head.count ≡ count_in (bytes (measured c))
+counts : (c : tie.Else-not-extent) → (measured c).measure.result.head.count ≡ count_in (bytes (measured c))
 counts c = ap (λ h. h.count) (heads c)
 
 -- Its records reach no further than its bytes, which are at most 8,192.
-reaches : (c : tie.Else1) → let n = (measured c).measure.result.head.count in (start n ≤ length (bytes (measured c))) × (n < 65536)
+reaches : (c : tie.Else-not-extent) → let n = (measured c).measure.result.head.count in (start n ≤ length (bytes (measured c))) × (n < 65536)
 reaches c = let h = whole-lengths (bytes (measured c)) (whole c) in (omega (arith, h.2, counts c), omega (arith, h.0, h.2, counts c))
 
 -- The parts of its head are at hand.
-abbrev apart : tie.After-widths → tie.Else1
+abbrev apart : tie.After-widths-1 → tie.Else-not-extent
 apart c = c.before.before
 
 -- The query is read.
-abbrev entire : tie.After-read → tie.Else1
+abbrev entire : tie.After-read-reading → tie.Else-not-extent
 entire c = apart c.before.before
 
-reading : (c : tie.After-read) → let bs = bytes (measured (entire c)) in c.read.result ≡ read_of (widths_in bs) (query_in bs)
+reading : (c : tie.After-read-reading) → let bs = bytes (measured (entire c)) in c.read-reading.result ≡ read_of (widths_in bs) (query_in bs)
 reading c =
     let w = entire c in let bs = bytes (measured w) in
-    c.read.ensures ∙ (λ j. read_of (heads w j).widths (rest bs (measured w).measure.result.head.count (counts w) j))
+    c.read-reading.ensures ∙ (λ j. read_of (heads w j).widths (rest bs (measured w).measure.result.head.count (counts w) j))
 
 -- It is accepted.
-read : (c : tie.After-enum-told) → let bs = bytes (measured (entire c.before.before)) in (read_of (widths_in bs) (query_in bs)).answer ≡ Done
-read c = ap (λ v. v.answer) (sym (reading c.before.before)) ∙ c.enum_told.given.1
+read : (c : tie.In_default) → let bs = bytes (measured (entire c.before.before)) in (read_of (widths_in bs) (query_in bs)).answer ≡ Done
+read c = ap (λ v. v.answer) (sym (reading c.before.before)) ∙ c.enum_told-1.given.1
 
 -- The store is filled.
-abbrev queried : tie.After-fill → tie.After-read
+abbrev queried : tie.After-fill-filled → tie.After-read-reading
 queried c = c.before.before.before
 
-filling : (c : tie.After-fill) → let bs = bytes (measured (entire (queried c))) in c.fill.result ≡ fill_reply (widths_in bs) (records_in bs)
+filling : (c : tie.After-fill-filled) → let bs = bytes (measured (entire (queried c))) in c.fill-filled.result ≡ fill_reply (widths_in bs) (records_in bs)
 filling c =
     let r = queried c in let w = entire r in let bs = bytes (measured w) in
-    c.fill.ensures
+    c.fill-filled.ensures
     ∙ (λ j. collect_all (beginning (heads w j).widths) (tabulate (record_at bs) (counts w j)))
     ∙ fill-collects (widths_in bs) (records_in bs)
 
 -- ---- the needs
 
-measure-requires : tie.Need-measure-requires
+measure-requires : tie.Need-measure-extent-requires
 measure-requires c κs = search rules
 
 refused-requires : tie.Need-refused-requires
 refused-requires c κs = search rules
 
-returns : tie.Need-returns
+returns : tie.Need-returns-then-not-extent
 returns c =
     let m = c.before.before.before in
     c.refused.ensures
-    ∙ sym (input-short (bytes m) (sym (extent-whole (bytes m)) ∙ ap (λ e. e.whole) (sym m.measure.ensures) ∙ not-true m.measure.result.whole c.before.if1.true))
+    ∙ sym (input-short (bytes m) (sym (extent-whole (bytes m)) ∙ ap (λ e. e.whole) (sym m.measure-extent.ensures) ∙ not-true m.measure-extent.result.whole c.before.if-not-extent.true))
 
-mul-from : tie.Need-overflow-mul-from
+mul-from : tie.Need-overflow_mul-from
 mul-from c = omega (arith, reaches (apart c))
 
-add-from : tie.Need-overflow-add-from
+add-from : tie.Need-overflow_add-from
 add-from c = omega (arith, reaches (apart c))
 
-sub_read : tie.Need-overflow-sub-read
+sub_read : tie.Need-slice_bounds-read-count
 sub_read c = (reaches (apart c)).0
 
-part-read-start : tie.Need-slice-bounds-read-start
+part-read-start : tie.Need-slice_bounds-read-start
 part-read-start c = (reaches (apart c)).0
 
-part-read-end : tie.Need-slice-bounds-read-end
+part-read-end : tie.Need-slice_bounds-read-end
 part-read-end c = search rules
 
-read-requires : tie.Need-read-requires
+read-requires : tie.Need-read-reading-requires
 read-requires c κs = search rules
 
-enum-known-answer : tie.Need-enum-known-answer
+enum-known-answer : tie.Need-enum_known-answer
 enum-known-answer c = search rules
 
-refused-requires-2 : tie.Need-refused-requires-2
+refused-requires-2 : tie.Need-refused-requires-in-Refused
 refused-requires-2 c κs = search rules
 
-returns-2 : tie.Need-returns-2
+returns-2 : tie.Need-returns-in-Refused
 returns-2 c =
     let t = c.before.before in let r = t.before.before in let w = entire r in
-    c.refused2.ensures ∙ sym (input-unread (bytes (measured w)) (whole w) _ _ (ap (λ v. v.answer) (sym (reading r)) ∙ t.answer.given.1))
+    c.refused-in-Refused.ensures ∙ sym (input-unread (bytes (measured w)) (whole w) _ _ (ap (λ v. v.answer) (sym (reading r)) ∙ t.answer-1.given.1))
 
-enum_told : tie.Need-enum-told
+enum_told : tie.Need-enum_told-1
 enum_told c = search rules
 
-fill-requires : tie.Need-fill-requires
+fill-requires : tie.Need-fill-filled-requires
 fill-requires c κs = reaches (entire c.before.before)
 
-enum-known-outcome : tie.Need-enum-known-outcome
+enum-known-outcome : tie.Need-enum_known-outcome
 enum-known-outcome c = search rules
 
-refused-requires-3 : tie.Need-refused-requires-3
+refused-requires-3 : tie.Need-refused-requires-in-Refused-outcome
 refused-requires-3 c κs = search rules
 
-returns-3 : tie.Need-returns-3
+returns-3 : tie.Need-returns-in-Refused-outcome
 returns-3 c =
     let t = c.before.before in let f = t.before.before in let w = entire (queried f) in
-    c.refused3.ensures ∙ sym (input-unfilled (bytes (measured w)) (whole w) (read f.before) _ _ (ap (λ v. v.answer) (sym (filling f)) ∙ t.outcome.given.1))
+    c.refused-in-Refused-outcome.ensures ∙ sym (input-unfilled (bytes (measured w)) (whole w) (read f.before) _ _ (ap (λ v. v.answer) (sym (filling f)) ∙ t.outcome-1.given.1))
 
-enum-told-2 : tie.Need-enum-told-2
+enum-told-2 : tie.Need-enum_told-in_default-outcome
 enum-told-2 c = search rules
 
-returns-4 : tie.Need-returns-4
+returns-4 : tie.Need-returns
 returns-4 c =
     let t = c.before.before.before in let f = t.before.before in let r = queried f in let w = entire r in
-    (λ j. assembled (filling f j) (reading r j)) ∙ sym (input-filled (bytes (measured w)) (whole w) (read f.before) (ap (λ v. v.answer) (sym (filling f)) ∙ t.enum-told2.given.1))
+    (λ j. assembled (filling f j) (reading r j)) ∙ sym (input-filled (bytes (measured w)) (whole w) (read f.before) (ap (λ v. v.answer) (sym (filling f)) ∙ t.enum_told-in_default-outcome-1.given.1))
 
 pub take_spec : {M : Type 1} → statement M
 take_spec =

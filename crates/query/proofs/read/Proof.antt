@@ -53,7 +53,7 @@ assembled {bs} {n} {k} f cs ns xs e₁ e₂ e₃ =
 -- ---- what is known at a place
 
 abbrev widths : tie.Start → List ℕ
-widths s = s.args.t2
+widths s = s.args.widths
 
 abbrev bytes : tie.Start → List ℕ
 bytes s = s.args.bytes.now
@@ -62,132 +62,132 @@ abbrev trees : tie.Start → List Check
 trees s = tree_checks (widths s) (count_of_constants (bytes s)) (nodes_of (bytes s))
 
 -- The header is passed.
-abbrev start : tie.After-enum-told → tie.Start
+abbrev start : tie.In_default → tie.Start
 start c = c.before.before.before.before
 
-passed : (c : tie.After-enum-told) → Done ≡ first_cause (header_checks (widths (start c)) (bytes (start c)))
-passed c = sym c.enum_told.given.1 ∙ c.before.before.header.ensures
+passed : (c : tie.In_default) → Done ≡ first_cause (header_checks (widths (start c)) (bytes (start c)))
+passed c = sym c.enum_told-1.given.1 ∙ c.before.before.header-header.ensures
 
-headed : (c : tie.After-enum-told) → Headed (bytes (start c))
+headed : (c : tie.In_default) → Headed (bytes (start c))
 headed c = header-done (widths (start c)) (bytes (start c)) Done (passed c) refl
 
 -- The counts are read.
-abbrev told : tie.After-constant-count → tie.After-enum-told
+abbrev told : tie.After-constant_count-k → tie.In_default
 told c = c.before.before
 
-fits : (c : tie.After-constant-count) → Fitting (bytes (start (told c))) c.before.node-count.result c.constant-count.result
-fits c = fitting (headed (told c)) c.before.node-count.result c.constant-count.result c.before.node-count.ensures c.constant-count.ensures
+fits : (c : tie.After-constant_count-k) → Fitting (bytes (start (told c))) c.before.node-count.result c.constant-count.result
+fits c = fitting (headed (told c)) c.before.node_count-n.result c.constant_count-k.result c.before.node_count-n.ensures c.constant_count-k.ensures
 
 -- The words are read.
-abbrev counts : tie.After-words2 → tie.After-constant-count
+abbrev counts : tie.After-words-2 → tie.After-constant_count-k
 counts c = c.before.before.before.before.before
 
-abbrev nodes : tie.After-words2 → List ℕ
-nodes c = c.words2.new.1.1.1.0
+abbrev nodes : tie.After-words-2 → List ℕ
+nodes c = c.words-2.new.1.1.1.0
 
-abbrev constants : tie.After-words2 → List ℕ
+abbrev constants : tie.After-words-2 → List ℕ
 constants c = c.before.before.before.words.new.1.1.1.0
 
 -- The nodes are judged.
-abbrev words : tie.After-tree → tie.After-words2
+abbrev words : tie.After-tree-tree → tie.After-words-2
 words c = c.before.before.before.before
 
-abbrev began : tie.After-tree → tie.Start
+abbrev began : tie.After-tree-tree → tie.Start
 began c = start (told (counts (words c)))
 
-judged : (c : tie.After-tree) → c.tree.result ≡ first_cause (trees (began c))
-judged c = let w = words c in judged-nodes (fits (counts w)) (nodes w) w.words2.ensures (widths (began c)) c.tree.result c.tree.ensures
+judged : (c : tie.After-tree-tree) → c.tree.result ≡ first_cause (trees (began c))
+judged c = let w = words c in judged-nodes (fits (counts w)) (nodes w) w.words2.ensures (widths (began c)) c.tree-tree.result c.tree-tree.ensures
 
-placed : (c : tie.After-enum-told2) → Done ≡ first_cause (trees (began c.before.before))
-placed c = sym c.enum-told2.given.1 ∙ judged c.before.before
+placed : (c : tie.In_default-tree) → Done ≡ first_cause (trees (began c.before.before))
+placed c = sym c.enum_told-in_default-tree-1.given.1 ∙ judged c.before.before
 
 -- The columns are found.
-abbrev tree : tie.After-columns → tie.After-tree
+abbrev tree : tie.After-columns-columns → tie.After-tree-tree
 tree c = c.before.before.before.before
 
-found : (c : tie.After-columns) → c.columns.result ≡ columns_found (columns (root (nodes_of (bytes (began (tree c))))))
-found c = let w = words (tree c) in found-columns (fits (counts w)) (nodes w) w.words2.ensures c.columns.result c.columns.ensures
+found : (c : tie.After-columns-columns) → c.columns.result ≡ columns_found (columns (root (nodes_of (bytes (began (tree c))))))
+found c = let w = words (tree c) in found-columns (fits (counts w)) (nodes w) w.words2.ensures c.columns-columns.result c.columns-columns.ensures
 
-count : (c : tie.After-columns) → c.columns.result.count ≡ length (columns (root (nodes_of (bytes (began (tree c))))))
+count : (c : tie.After-columns-columns) → c.columns.result.count ≡ length (columns (root (nodes_of (bytes (began (tree c))))))
 count c = ap (λ (xs : Columns). xs.count) (found c)
 
 -- ---- the needs
 
-header-requires : tie.Need-header-requires
+header-requires : tie.Need-header-header-requires
 header-requires c κs = search rules
 
-enum-known-header : tie.Need-enum-known-header
+enum-known-header : tie.Need-enum_known-header
 enum-known-header c = search rules
 
 refused-requires : tie.Need-refused-requires
 refused-requires c κs = search rules
 
-returns : tie.Need-returns
+returns : tie.Need-returns-in-Refused
 returns c =
     let h = c.before.before.before.before in let s = h.before.before in
-    c.refused.ensures ∙ refused-header (widths s) (bytes s) h.header.result h.header.ensures c.before.before.header2.given.1
+    c.refused.ensures ∙ refused-header (widths s) (bytes s) h.header-header.result h.header-header.ensures c.before.before.header-1.given.1
 
-enum_told : tie.Need-enum-told
+enum_told : tie.Need-enum_told-1
 enum_told c = search rules
 
-node-count-requires : tie.Need-node-count-requires
+node-count-requires : tie.Need-node_count-n-requires
 node-count-requires c κs = (headed c).long
 
-constant-count-requires : tie.Need-constant-count-requires
+constant-count-requires : tie.Need-constant_count-k-requires
 constant-count-requires c κs = (headed c.before).long
 
-slice-aggregate-words : tie.Need-slice-aggregate-words
+slice-aggregate-words : tie.Need-slice_bounds-words-end
 slice-aggregate-words c = search rules
 
 words-requires : tie.Need-words-requires
 words-requires c κs = let f = fits c.before in (omega arith, f.few_constants)
 
-mul_words : tie.Need-overflow-mul-words
+mul_words : tie.Need-overflow_mul-k
 mul_words c = let f = fits c.before.before.before in omega arith
 
-add_words : tie.Need-overflow-add-words
+add_words : tie.Need-overflow_add-k
 add_words c = let f = fits c.before.before.before in omega arith
 
-slice-aggregate-words-2 : tie.Need-slice-aggregate-words-2
+slice-aggregate-words-2 : tie.Need-slice_bounds-words-end-2
 slice-aggregate-words-2 c = search rules
 
 words-requires-2 : tie.Need-words-requires-2
 words-requires-2 c κs = let f = fits c.before.before.before.before in (omega arith, f.few_nodes)
 
-tree-requires : tie.Need-tree-requires
+tree-requires : tie.Need-tree-tree-requires
 tree-requires c κs = let f = fits c.before.before.before.before.before.before.before.before in (f.few_nodes, f.few_constants)
 
-enum-known-tree : tie.Need-enum-known-tree
+enum-known-tree : tie.Need-enum_known-tree
 enum-known-tree c = search rules
 
-refused-requires-2 : tie.Need-refused-requires-2
+refused-requires-2 : tie.Need-refused-requires-in-Refused-tree
 refused-requires-2 c κs = search rules
 
-returns-2 : tie.Need-returns-2
+returns-2 : tie.Need-returns-in-Refused-tree
 returns-2 c =
     let t = c.before.before.before.before in let s = began t in
-    c.refused2.ensures ∙ refused-tree (widths s) (bytes s) (passed (told (counts (words t)))) t.tree.result (judged t) c.before.before.tree2.given.1
+    c.refused-in-Refused-tree.ensures ∙ refused-tree (widths s) (bytes s) (passed (told (counts (words t)))) t.tree-tree.result (judged t) c.before.before.tree-1.given.1
 
-enum-told-2 : tie.Need-enum-told-2
+enum-told-2 : tie.Need-enum_told-in_default-tree
 enum-told-2 c = search rules
 
-columns-requires : tie.Need-columns-requires
+columns-requires : tie.Need-columns-columns-requires
 columns-requires c κs = let f = fits c.before.before.before.before.before.before.before.before.before.before.before.before in (f.some_nodes, f.few_nodes)
 
-refused-requires-3 : tie.Need-refused-requires-3
+refused-requires-3 : tie.Need-refused-requires-then-width-gt-COLUMNS
 refused-requires-3 c κs = search rules
 
-returns-3 : tie.Need-returns-3
+returns-3 : tie.Need-returns-then-width-gt-COLUMNS
 returns-3 c =
     let t = c.before.before in let s = began (tree t) in
-    c.refused3.ensures
-    ∙ refused-columns (widths s) (bytes s) (passed (told (counts (words (tree t))))) (placed t.before.before) (subst (λ (k : ℕ). 4 < k) (count t) c.before.if1.true)
+    c.refused-then-width-gt-COLUMNS.ensures
+    ∙ refused-columns (widths s) (bytes s) (passed (told (counts (words (tree t))))) (placed t.before.before) (subst (λ (k : ℕ). 4 < k) (count t) c.before.if-width-gt-COLUMNS.true)
 
-returns-4 : tie.Need-returns-4
+returns-4 : tie.Need-returns
 returns-4 c =
     let t = c.before in let s = began (tree t) in let w = words (tree t) in let f = fits (counts w) in
-    let few : length (columns (root (nodes_of (bytes s)))) ≤ 4 = subst (λ (k : ℕ). k ≤ 4) (count t) c.if1.false in
-    assembled f (constants w) (nodes w) t.columns.result
+    let few : length (columns (root (nodes_of (bytes s)))) ≤ 4 = subst (λ (k : ℕ). k ≤ 4) (count t) c.if-width-gt-COLUMNS.false in
+    assembled f (constants w) (nodes w) t.columns-columns.result
     (constants-padded f (constants w) w.before.before.before.words.ensures)
     (nodes-padded f (nodes w) w.words2.ensures)
     (found t ∙ few_columns (columns (root (nodes_of (bytes s)))) few)

@@ -7,13 +7,13 @@ use borrow.Author.Rules.{rules}
 use Rattle.rule.proofs.main.Statement.{statement}
 use Rattle.rule.proofs.main.Tie as tie
 
-room-requires : tie.Need-room-requires
+room-requires : tie.Need-room-space-requires
 room-requires c κs = search rules
 
-slice-aggregate-read-all : tie.Need-slice-aggregate-read-all
+slice-aggregate-read-all : tie.Need-slice_bounds-read_all-end
 slice-aggregate-read-all c = search rules
 
-read-all-requires : tie.Need-read-all-requires
+read-all-requires : tie.Need-read_all-p-requires
 read-all-requires c κs = search rules
 
 slice-aggregate-fail : tie.Need-slice-aggregate-fail
@@ -22,28 +22,28 @@ slice-aggregate-fail c = search rules
 fail-requires : tie.Need-fail-requires
 fail-requires c κs = search rules
 
-returns : tie.Need-returns
+returns : tie.Need-returns-then-p
 returns c = search rules
 
-slice-aggregate-write-all : tie.Need-slice-aggregate-write-all
+slice-aggregate-write-all : tie.Need-slice_bounds-write_all-end-2
 slice-aggregate-write-all c = search rules
 
-write-all-requires : tie.Need-write-all-requires
+write-all-requires : tie.Need-write_all-requires
 write-all-requires c κs = search rules
 
-returns-2 : tie.Need-returns-2
+returns-2 : tie.Need-returns-then-size-eq-SPACE
 returns-2 c = search rules
 
-array-share-prefix-space : tie.Need-array-share-prefix-space
+array-share-prefix-space : tie.Need-slice_bounds-space-end
 array-share-prefix-space c = search rules
 
-slice-aggregate-print : tie.Need-slice-aggregate-print
+slice-aggregate-print : tie.Need-slice_bounds-print-end
 slice-aggregate-print c =
-    let a = c.before.before.before.before.read_all in
+    let a = c.before.before.before.before.read_all-p in
     let within : a.result.bytes ≤ length a.new.0 = search rules in
     sym (length-take-le a.result.bytes a.new.0 within)
 
-print-requires : tie.Need-print-requires
+print-requires : tie.Need-print-n-requires
 print-requires c κs = search rules
 
 slice-aggregate-write-all-2 : tie.Need-slice-aggregate-write-all-2
@@ -52,19 +52,19 @@ slice-aggregate-write-all-2 c =
     let within : a.result ≤ length a.new.1.0 = search rules in
     sym (length-take-le a.result a.new.1.0 within)
 
-write-all-requires-2 : tie.Need-write-all-requires-2
+write-all-requires-2 : tie.Need-write_all-requires-2
 write-all-requires-2 c κs = search rules
 
 slice-aggregate-fail-2 : tie.Need-slice-aggregate-fail-2
 slice-aggregate-fail-2 c = search rules
 
-fail-requires-2 : tie.Need-fail-requires-2
+fail-requires-2 : tie.Need-fail-requires-then-not-write_all
 fail-requires-2 c κs = search rules
 
-returns-3 : tie.Need-returns-3
+returns-3 : tie.Need-returns-then-not-write_all
 returns-3 c = search rules
 
-returns-4 : tie.Need-returns-4
+returns-4 : tie.Need-returns-else-not-write_all
 returns-4 c = search rules
 
 pub main_spec : {M : Type 1} → statement M

@@ -8,5 +8,5 @@ use Rattle.rule.proofs.room.Tie as tie
 returns : tie.Need-returns
 returns c = sym (length-replicate {A = ℕ} 1048577 0)
 
-pub room-spec : {M : Type 1} → statement M
-room-spec = tie.close (tie.spec returns)
+pub room_spec : {M : Type 1} → statement M
+room_spec = tie.close (tie.spec returns)

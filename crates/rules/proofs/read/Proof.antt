@@ -8,37 +8,37 @@ use Rattle.rules.specs.Reply.Laws.{reply-short, reply-refuses, reply-reads}
 use Rattle.rules.proofs.read.Statement.{statement}
 use Rattle.rules.proofs.read.Tie as tie
 
-places : (c : tie.After-pack) → length c.pack.result.bytes ≡ 322
+places : (c : tie.After-pack-p) → length c.pack.result.bytes ≡ 322
 places c = search rules
 
-pack-requires : tie.Need-pack-requires
+pack-requires : tie.Need-pack-p-requires
 pack-requires c κs = search rules
 
-enum-known-answer : tie.Need-enum-known-answer
+enum-known-answer : tie.Need-enum_known-answer
 enum-known-answer c = search rules
 
 refused-requires : tie.Need-refused-requires
 refused-requires c κs = search rules
 
-returns : tie.Need-returns
+returns : tie.Need-returns-in-Refused
 returns c =
     let t = c.before.before in let p = t.before.before in let a = p.before.before.args in
-    reply-refuses a.text.now p.pack.result p.pack.ensures a.widths _ _ t.answer.given.1 c.refused.result c.refused.ensures
+    reply-refuses a.text.now p.pack-p.result p.pack-p.ensures a.widths _ _ t.answer-1.given.1 c.refused.result c.refused.ensures
 
-enum_told : tie.Need-enum-told
+enum_told : tie.Need-enum_told-1
 enum_told c = search rules
 
-slice-aggregate-read : tie.Need-slice-aggregate-read
+slice-aggregate-read : tie.Need-slice_bounds-read-end
 slice-aggregate-read c =
     let p = c.before.before.before.before.before.before in let r = p.pack.result in
-    sym (length-take-le r.size r.bytes (omega (arith, places p, reply-short p.before.before.args.text.now r p.pack.ensures)))
+    sym (length-take-le r.size r.bytes (omega (arith, places p, reply-short p.before.args.text.now r p.pack.ensures)))
 
 read-requires : tie.Need-read-requires
 read-requires c κs = search rules
 
-returns-2 : tie.Need-returns-2
+returns-2 : tie.Need-returns
 returns-2 c =
-    let t = c.before.before.before.before.before in let p = t.before.before in let a = p.before.before.args in
+    let t = c.before.before.before.before.before in let p = t.before.before in let a = p.before.args in
     reply-reads a.text.now p.pack.result p.pack.ensures a.widths t.enum_told.given.1 c.read.result c.read.ensures
 
 pub read_spec : {M : Type 1} → statement M

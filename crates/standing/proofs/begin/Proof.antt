@@ -6,33 +6,33 @@ use Rattle.standing.proofs.begin.Statement.{statement}
 use Rattle.standing.proofs.begin.Tie as tie
 
 -- The store is judged.
-abbrev start : tie.After-judge → tie.Start
+abbrev start : tie.After-judge-judged → tie.Start
 start c = c.before.before
 
-judge-requires : tie.Need-judge-requires
+judge-requires : tie.Need-judge-judged-requires
 judge-requires c κs = search rules
 
-enum-known-judged : tie.Need-enum-known-judged
+enum-known-judged : tie.Need-enum_known-judged
 enum-known-judged c = search rules
 
 refused-requires : tie.Need-refused-requires
 refused-requires c κs = search rules
 
-returns : tie.Need-returns
+returns : tie.Need-returns-in-Refused
 returns c =
     let t = c.before.before in let j = t.before.before in let a = (start j).args in
-    c.refused.ensures ∙ begun-refused a.store a.bytes.now _ _ (sym j.judge.ensures ∙ t.judged.given.1)
+    c.refused.ensures ∙ begun-refused a.store a.bytes.now _ _ (sym j.judge-judged.ensures ∙ t.judged-1.given.1)
 
-enum_told : tie.Need-enum-told
+enum_told : tie.Need-enum_told-1
 enum_told c = search rules
 
 read-requires : tie.Need-read-requires
 read-requires c κs = search rules
 
-returns-2 : tie.Need-returns-2
+returns-2 : tie.Need-returns
 returns-2 c =
     let t = c.before.before in let j = t.before.before in let a = (start j).args in
-    c.read.ensures ∙ begun-reading a.store a.bytes.now (sym j.judge.ensures ∙ t.enum_told.given.1)
+    c.read.ensures ∙ begun-reading a.store a.bytes.now (sym j.judge-judged.ensures ∙ t.enum_told-1.given.1)
 
-pub begin-spec : {M : Type 1} → statement M
-begin-spec = tie.close (tie.spec judge-requires enum-known-judged refused-requires returns enum_told read-requires returns-2)
+pub begin_spec : {M : Type 1} → statement M
+begin_spec = tie.close (tie.spec judge-requires enum-known-judged refused-requires returns enum_told read-requires returns-2)

@@ -8,45 +8,45 @@ use Rattle.standing.proofs.cause.Statement.{statement}
 use Rattle.standing.proofs.cause.Tie as tie
 
 -- What is known where the counts are tested.
-abbrev tested : tie.Else2 → tie.Start
+abbrev tested : tie.Else-left-m → tie.Start
 tested c = c.before.before
 
-sub-if1 : tie.Need-overflow-sub-if1
+sub-if1 : tie.Need-overflow_sub-joined
 sub-if1 c = search rules
 
-returns : tie.Need-returns
-returns c = let s = c.before.args in sym (joined-past s.joined s.left s.n s.m s.k s.a s.b c.if1.true)
+returns : tie.Need-returns-then-joined-n
+returns c = let s = c.before.args in sym (joined-past s.joined s.left s.n s.m s.k s.a s.b c.if-joined-n.true)
 
-sub-if2 : tie.Need-overflow-sub-if2
+sub-if2 : tie.Need-overflow_sub-left
 sub-if2 c = search rules
 
-returns-2 : tie.Need-returns-2
+returns-2 : tie.Need-returns-then-left-m
 returns-2 c =
     let o = c.before in let t = o.before in let s = t.args in
-    sym (left-past s.joined s.left s.n s.m s.k s.a s.b t.ranges.joined.fits o.if1.false c.if2.true)
+    sym (left-past s.joined s.left s.n s.m s.k s.a s.b t.ranges.joined.fits o.if-joined-n.false c.if-left-m.true)
 
-mul-if3 : tie.Need-overflow-mul-if3
+mul-if3 : tie.Need-overflow_mul-n
 mul-if3 c = let t = tested c in let p = few-numbers t.args.n t.args.k t.pre.0 t.pre.2 in record { fits = omega (arith, p) }
 
-returns-3 : tie.Need-returns-3
+returns-3 : tie.Need-returns-then-a-n
 returns-3 c =
     let o = c.before in let t = tested o in let s = t.args in
-    sym (joined-exceed s.joined s.left s.n s.m s.k s.a s.b t.fits.joined.fits o.before.if1.false t.fits.left.fits o.if2.false c.if3.true)
+    sym (joined-exceed s.joined s.left s.n s.m s.k s.a s.b t.fits.joined.fits o.before.if-joined-n.false t.fits.left.fits o.if-left-m.false c.if-a-n.true)
 
-mul-if4 : tie.Need-overflow-mul-if4
+mul-if4 : tie.Need-overflow_mul-m
 mul-if4 c = let t = tested c.before in let p = few-numbers t.args.m t.args.k t.pre.1 t.pre.2 in record { fits = omega (arith, p) }
 
-returns-4 : tie.Need-returns-4
+returns-4 : tie.Need-returns-then-b-m
 returns-4 c =
     let o = c.before.before in let t = tested o in let s = t.args in
-    sym (left-exceed s.joined s.left s.n s.m s.k s.a s.b t.fits.joined.fits o.before.if1.false t.fits.left.fits o.if2.false c.before.if3.false c.if4.true)
+    sym (left-exceed s.joined s.left s.n s.m s.k s.a s.b t.fits.joined.fits o.before.if-joined-n.false t.fits.left.fits o.if-left-m.false c.before.if-a-n.false c.if-b-m.true)
 
-returns-5 : tie.Need-returns-5
+returns-5 : tie.Need-returns
 returns-5 c =
     let o = c.before.before in let t = tested o in let s = t.args in
-    sym (none-met s.joined s.left s.n s.m s.k s.a s.b t.fits.joined.fits o.before.if1.false t.fits.left.fits o.if2.false c.before.if3.false c.if4.false)
+    sym (none-met s.joined s.left s.n s.m s.k s.a s.b t.fits.joined.fits o.before.if-joined-n.false t.fits.left.fits o.if-left-m.false c.before.if-a-n.false c.if-b-m.false)
 
-pub cause-spec : {M : Type 1} → statement M
-cause-spec =
+pub cause_spec : {M : Type 1} → statement M
+cause_spec =
     tie.close
     (tie.spec sub-if1 returns sub-if2 returns-2 mul-if3 returns-3 mul-if4 returns-4 returns-5)

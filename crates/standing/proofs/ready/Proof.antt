@@ -19,23 +19,23 @@ use Rattle.standing.proofs.ready.Tie as tie
 -- ---- what is known at a place
 
 -- Store and query are judged.
-abbrev start : tie.After-begin → tie.Start
+abbrev start : tie.After-begin-reading → tie.Start
 start c = c.before.before
 
-abbrev store : tie.After-begin → Store
+abbrev store : tie.After-begin-reading → Store
 store c = (start c).args.store
 
-abbrev bytes : tie.After-begin → List ℕ
+abbrev bytes : tie.After-begin-reading → List ℕ
 bytes c = (start c).args.bytes.now
 
 -- They aren't refused: the query is read.
-abbrev beginning : tie.After-enum-told2 → tie.After-begin
+abbrev beginning : tie.In_default → tie.After-begin-reading
 beginning c = c.before.before.before
 
-done : (c : tie.After-enum-told2) → let b = beginning c in first_cause (begin_checks (store b) (bytes b)) ≡ Done
-done c = let b = beginning c in begun-cause (store b) (bytes b) Done (ap (λ r. r.answer) (sym b.begin.ensures) ∙ c.enum-told2.given.1)
+done : (c : tie.In_default) → let b = beginning c in first_cause (begin_checks (store b) (bytes b)) ≡ Done
+done c = let b = beginning c in begun-cause (store b) (bytes b) Done (ap (λ r. r.answer) (sym b.begin.ensures) ∙ c.enum_told-in_default-1.given.1)
 
-reads : (c : tie.After-enum-told2) → let b = beginning c in b.begin.result ≡ read_of (store b).widths (bytes b)
+reads : (c : tie.In_default) → let b = beginning c in b.begin.result ≡ read_of (store b).widths (bytes b)
 reads c = let b = beginning c in b.begin.ensures ∙ begun-is (store b) (bytes b) (done c)
 
 -- What the list is judged to be.
@@ -46,18 +46,18 @@ judgement-is c =
 
 -- ---- the needs
 
-begin-requires : tie.Need-begin-requires
+begin-requires : tie.Need-begin-reading-requires
 begin-requires c κs = search rules
 
-enum_told : tie.Need-enum-told
+enum_told : tie.Need-enum_told-1
 enum_told c = search rules
 
-returns : tie.Need-returns
+returns : tie.Need-returns-in-Refused
 returns c =
-    let b = c.before.before.before in let was = c.enum_told.given in let n = was.0.0 in let p = was.0.1.0 in let e = b.begin.ensures in
+    let b = c.before.before.before in let was = c.enum_told-1.given in let n = was.0.0 in let p = was.0.1.0 in let e = b.begin-reading.ensures in
     e ∙ readied-refused (store b) (bytes b) (start b).args.view n p (begun-cause (store b) (bytes b) (Refused n p) (ap (λ r. r.answer) (sym e) ∙ was.1))
 
-enum-told-2 : tie.Need-enum-told-2
+enum-told-2 : tie.Need-enum_told-in_default
 enum-told-2 c = search rules
 
 suits-requires : tie.Need-suits-requires
@@ -65,18 +65,18 @@ suits-requires c κs =
     let b = beginning c in let q = query_read (store b) (bytes b) in
     subst⁻¹ QueryColumns (ap (λ r. r.columns) (reads c) ∙ begun-columns (store b) (bytes b) (done c)) (query-columns q (begun-few (store b) (bytes b) (done c)))
 
-returns-2 : tie.Need-returns-2
+returns-2 : tie.Need-returns-then-suits
 returns-2 c =
     let t = c.before.before in let b = beginning t in
-    b.begin.ensures ∙ readied-suited (store b) (bytes b) (start b).args.view (done t) (sym (judgement-is c.before) ∙ c.if1.true)
+    b.begin.ensures ∙ readied-suited (store b) (bytes b) (start b).args.view (done t) (sym (judgement-is c.before) ∙ c.if-suits.true)
 
 refused-requires : tie.Need-refused-requires
 refused-requires c κs = search rules
 
-returns-3 : tie.Need-returns-3
+returns-3 : tie.Need-returns
 returns-3 c =
     let o = c.before in let t = o.before.before in let b = beginning t in
-    c.refused.ensures ∙ readied-unsuited (store b) (bytes b) (start b).args.view (done t) (sym (judgement-is o.before) ∙ o.if1.false)
+    c.refused.ensures ∙ readied-unsuited (store b) (bytes b) (start b).args.view (done t) (sym (judgement-is o.before) ∙ o.if-suits.false)
 
-pub ready-spec : {M : Type 1} → statement M
-ready-spec = tie.close (tie.spec begin-requires enum_told returns enum-told-2 suits-requires returns-2 refused-requires returns-3)
+pub ready_spec : {M : Type 1} → statement M
+ready_spec = tie.close (tie.spec begin-requires enum_told returns enum-told-2 suits-requires returns-2 refused-requires returns-3)

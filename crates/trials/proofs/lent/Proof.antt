@@ -8,37 +8,37 @@ use Rattle.trials.proofs.lent.Tie as tie
 use Rattle.trials.proofs.lent.Reads as reads
 use Rattle.trials.proofs.lent.Lts as lts
 
-abbrev invariant-loop : tie.invariant-loop
+abbrev invariant-loop : tie.invariant-loop-i
 invariant-loop room numbers₀ i₀ numbers i = (i ≤ room) × (room ≤ 8192) × (length numbers ≡ 8192)
 
-abbrev decreases-loop : tie.decreases-loop
+abbrev decreases-loop : tie.decreases-loop-i
 decreases-loop room numbers₀ i₀ numbers i = room - i
 
-loop-holds : tie.Need-loop-init invariant-loop decreases-loop
+loop-holds : tie.Need-loop-i-init invariant-loop decreases-loop
 loop-holds c = search rules
 
-mul-numbers : tie.Need-overflow-mul-numbers invariant-loop decreases-loop
+mul-numbers : tie.Need-overflow_mul-numbers invariant-loop decreases-loop
 mul-numbers c = search rules
 
-add-numbers : tie.Need-overflow-add-numbers invariant-loop decreases-loop
+add-numbers : tie.Need-overflow_add-numbers invariant-loop decreases-loop
 add-numbers c = search rules
 
-cast-numbers : tie.Need-overflow-cast-numbers invariant-loop decreases-loop
+cast-numbers : tie.Need-overflow_cast-numbers invariant-loop decreases-loop
 cast-numbers c = search rules
 
-mul-numbers-2 : tie.Need-overflow-mul-numbers-2 invariant-loop decreases-loop
+mul-numbers-2 : tie.Need-offset_bounds-numbers-i invariant-loop decreases-loop
 mul-numbers-2 c = search rules
 
-array-write-numbers : tie.Need-array-write-numbers invariant-loop decreases-loop
+array-write-numbers : tie.Need-bounds-numbers-i invariant-loop decreases-loop
 array-write-numbers c = search rules
 
-add-i : tie.Need-overflow-add-i invariant-loop decreases-loop
+add-i : tie.Need-overflow_add-i invariant-loop decreases-loop
 add-i c = search rules
 
-loop-less : tie.Need-loop-smaller invariant-loop decreases-loop
+loop-less : tie.Need-loop-i-smaller invariant-loop decreases-loop
 loop-less c = search rules
 
-loop-again : tie.Need-loop-preserved invariant-loop decreases-loop
+loop-again : tie.Need-loop-i-preserved invariant-loop decreases-loop
 loop-again c = search rules
 
 returns : tie.Need-returns invariant-loop decreases-loop

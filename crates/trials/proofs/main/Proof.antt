@@ -6,37 +6,37 @@ use borrow.Author.Rules.{rules}
 use Rattle.trials.proofs.main.Statement.{statement}
 use Rattle.trials.proofs.main.Tie as tie
 
-abbrev invariant-loop : tie.invariant-loop
+abbrev invariant-loop : tie.invariant-loop-at
 invariant-loop space n at₀ at = (n ≤ length space) × (length space ≡ 65536)
 
-abbrev decreases-loop : tie.decreases-loop
+abbrev decreases-loop : tie.decreases-loop-at
 decreases-loop space n at₀ at = n - at
 
-large-buffer-requires : tie.Need-large-buffer-requires invariant-loop decreases-loop
+large-buffer-requires : tie.Need-large_buffer-space-requires invariant-loop decreases-loop
 large-buffer-requires c κs = search rules
 
-slice-aggregate-read-full : tie.Need-slice-aggregate-read-full invariant-loop decreases-loop
+slice-aggregate-read-full : tie.Need-slice_bounds-read_full-end invariant-loop decreases-loop
 slice-aggregate-read-full c = search rules
 
-read-full-requires : tie.Need-read-full-requires invariant-loop decreases-loop
+read-full-requires : tie.Need-read_full-n-requires invariant-loop decreases-loop
 read-full-requires c κs = search rules
 
-loop-holds : tie.Need-loop-init invariant-loop decreases-loop
+loop-holds : tie.Need-loop-at-init invariant-loop decreases-loop
 loop-holds c = search rules
 
-array-share-prefix-space : tie.Need-array-share-prefix-space invariant-loop decreases-loop
+array-share-prefix-space : tie.Need-slice_bounds-space-end invariant-loop decreases-loop
 array-share-prefix-space c = search rules
 
-slice-aggregate-step : tie.Need-slice-aggregate-step invariant-loop decreases-loop
+slice-aggregate-step : tie.Need-slice_bounds-step-end invariant-loop decreases-loop
 slice-aggregate-step c = search rules
 
-step-requires : tie.Need-step-requires invariant-loop decreases-loop
+step-requires : tie.Need-step-at-requires invariant-loop decreases-loop
 step-requires c κs = search rules
 
-loop-less : tie.Need-loop-smaller invariant-loop decreases-loop
+loop-less : tie.Need-loop-at-smaller invariant-loop decreases-loop
 loop-less c = search rules
 
-loop-again : tie.Need-loop-preserved invariant-loop decreases-loop
+loop-again : tie.Need-loop-at-preserved invariant-loop decreases-loop
 loop-again c = search rules
 
 returns : tie.Need-returns invariant-loop decreases-loop

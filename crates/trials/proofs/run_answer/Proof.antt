@@ -18,58 +18,58 @@ use Rattle.trials.proofs.store_of.Reads as store-of-reads
 pair-requires : tie.Need-pair-requires
 pair-requires c κs = search rules
 
-mul-start : tie.Need-overflow-mul-start
+mul-start : tie.Need-overflow_mul-start
 mul-start c = search rules
 
-add_start : tie.Need-overflow-add-start
+add_start : tie.Need-overflow_add-start
 add_start c = search rules
 
-returns : tie.Need-returns
+returns : tie.Need-returns-then-body-start
 returns c = search rules
 
-pair-requires-2 : tie.Need-pair-requires-2
+pair-requires-2 : tie.Need-pair-room-requires
 pair-requires-2 c κs = search rules
 
-returns-2 : tie.Need-returns-2
+returns-2 : tie.Need-returns-then-room-gt-LENT
 returns-2 c = search rules
 
-lent-requires : tie.Need-lent-requires
+lent-requires : tie.Need-lent-space-requires
 lent-requires c κs = search rules
 
-store-of-requires : tie.Need-store-of-requires
+store-of-requires : tie.Need-store_of-requires
 store-of-requires c κs = search rules
 
-sub-answer-in : tie.Need-overflow-sub-answer-in
+sub-answer-in : tie.Need-slice_bounds-answer_in-count
 sub-answer-in c = search rules
 
-part-answer-in-start : tie.Need-slice-bounds-answer-in-start
+part-answer-in-start : tie.Need-slice_bounds-answer_in-start
 part-answer-in-start c = search rules
 
-part-answer-in-end : tie.Need-slice-bounds-answer-in-end
+part-answer-in-end : tie.Need-slice_bounds-answer_in-end
 part-answer-in-end c = search rules
 
 byte-requires : tie.Need-byte-requires
 byte-requires c κs = search rules
 
-array-borrow-prefix-space : tie.Need-array-borrow-prefix-space
+array-borrow-prefix-space : tie.Need-slice_bounds-space-end
 array-borrow-prefix-space c = search rules
 
-slice-aggregate-answer-in : tie.Need-slice-aggregate-answer-in
+slice-aggregate-answer-in : tie.Need-slice_bounds-answer_in-end-2
 slice-aggregate-answer-in c =
     let b = c.before.before.before.before in
-    let room : ℕ = b.before.before.pair2.result in
-    let l : length b.lent.result ≡ 8192 = search rules in
+    let room : ℕ = b.before.before.pair-room.result in
+    let l : length b.lent-space.result ≡ 8192 = search rules in
     let m : room ≤ 8192 = search rules in
-    sym (length-take-le room b.lent.result (omega (arith, l, m)))
+    sym (length-take-le room b.lent-space.result (omega (arith, l, m)))
 
-answer-in-requires : tie.Need-answer-in-requires
+answer-in-requires : tie.Need-answer_in-requires
 answer-in-requires c κs = search rules
 
-returns-3 : tie.Need-returns-3
+returns-3 : tie.Need-returns
 returns-3 c = search rules
 
-pub run-answer-spec : {M : Type 1} → statement M
-run-answer-spec =
+pub run_answer_spec : {M : Type 1} → statement M
+run_answer_spec =
     tie.close
     (tie.spec
     pair-requires

@@ -10,59 +10,59 @@ use Rattle.trials.proofs.pair.Reads as Pair-reads
 use Rattle.trials.proofs.record_of.Reads as record-of-reads
 use Rattle.trials.proofs.widths_of.Reads as widths-of-reads
 
-abbrev invariant-loop : tie.invariant-loop
+abbrev invariant-loop : tie.invariant-loop-i
 invariant-loop s from widths count given relations₀ values₀ i₀ relations values i = (i ≤ 256) × (from < 100)
 
-abbrev decreases-loop : tie.decreases-loop
+abbrev decreases-loop : tie.decreases-loop-i
 decreases-loop s from widths count given relations₀ values₀ i₀ relations values i = 256 - i
 
-widths-of-requires : tie.Need-widths-of-requires invariant-loop decreases-loop
+widths-of-requires : tie.Need-widths_of-widths-requires invariant-loop decreases-loop
 widths-of-requires c κs = search rules
 
-add-pair : tie.Need-overflow-add-pair invariant-loop decreases-loop
+add-pair : tie.Need-overflow_add-from invariant-loop decreases-loop
 add-pair c = search rules
 
-pair-requires : tie.Need-pair-requires invariant-loop decreases-loop
+pair-requires : tie.Need-pair-count-requires invariant-loop decreases-loop
 pair-requires c κs = search rules
 
-add-pair-2 : tie.Need-overflow-add-pair-2 invariant-loop decreases-loop
+add-pair-2 : tie.Need-overflow_add-from-2 invariant-loop decreases-loop
 add-pair-2 c = search rules
 
-pair-requires-2 : tie.Need-pair-requires-2 invariant-loop decreases-loop
+pair-requires-2 : tie.Need-pair-given-requires invariant-loop decreases-loop
 pair-requires-2 c κs = search rules
 
-loop-holds : tie.Need-loop-init invariant-loop decreases-loop
+loop-holds : tie.Need-loop-i-init invariant-loop decreases-loop
 loop-holds c = search rules
 
-add-record-of : tie.Need-overflow-add-record-of invariant-loop decreases-loop
+add-record-of : tie.Need-overflow_add-from-then-i-given invariant-loop decreases-loop
 add-record-of c = search rules
 
-mul-record-of : tie.Need-overflow-mul-record-of invariant-loop decreases-loop
+mul-record-of : tie.Need-overflow_mul-i invariant-loop decreases-loop
 mul-record-of c = search rules
 
-add-record-of-2 : tie.Need-overflow-add-record-of-2 invariant-loop decreases-loop
+add-record-of-2 : tie.Need-overflow_add-from-then-i-given-2 invariant-loop decreases-loop
 add-record-of-2 c = search rules
 
-record-of-requires : tie.Need-record-of-requires invariant-loop decreases-loop
+record-of-requires : tie.Need-record_of-r-requires invariant-loop decreases-loop
 record-of-requires c κs = search rules
 
 write-requires : tie.Need-write-requires invariant-loop decreases-loop
 write-requires c κs = search rules
 
-add-i : tie.Need-overflow-add-i invariant-loop decreases-loop
+add-i : tie.Need-overflow_add-i invariant-loop decreases-loop
 add-i c = search rules
 
-loop-less : tie.Need-loop-smaller invariant-loop decreases-loop
+loop-less : tie.Need-loop-i-smaller invariant-loop decreases-loop
 loop-less c = search rules
 
-loop-again : tie.Need-loop-preserved invariant-loop decreases-loop
+loop-again : tie.Need-loop-i-preserved invariant-loop decreases-loop
 loop-again c = search rules
 
 returns : tie.Need-returns invariant-loop decreases-loop
 returns c = search rules
 
-pub store-of-spec : {M : Type 1} → statement M
-store-of-spec =
+pub store_of_spec : {M : Type 1} → statement M
+store_of_spec =
     tie.close
     (tie.spec
     invariant-loop

@@ -7,38 +7,38 @@ use borrow.Author.Rules.{rules}
 use Rattle.trials.proofs.widths_of.Statement.{statement}
 use Rattle.trials.proofs.widths_of.Tie as tie
 
-abbrev invariant-loop : tie.invariant-loop
+abbrev invariant-loop : tie.invariant-loop-i
 invariant-loop s from widths₀ i₀ widths i = (i ≤ 16) × (length widths ≡ 16) × (from < 1000)
 
-abbrev decreases-loop : tie.decreases-loop
+abbrev decreases-loop : tie.decreases-loop-i
 decreases-loop s from widths₀ i₀ widths i = 16 - i
 
-loop-holds : tie.Need-loop-init invariant-loop decreases-loop
+loop-holds : tie.Need-loop-i-init invariant-loop decreases-loop
 loop-holds c = search rules
 
-add-byte : tie.Need-overflow-add-byte invariant-loop decreases-loop
+add-byte : tie.Need-overflow_add-from invariant-loop decreases-loop
 add-byte c = search rules
 
 byte-requires : tie.Need-byte-requires invariant-loop decreases-loop
 byte-requires c κs = search rules
 
-array-write-widths : tie.Need-array-write-widths invariant-loop decreases-loop
+array-write-widths : tie.Need-bounds-widths-i invariant-loop decreases-loop
 array-write-widths c = search rules
 
-add-i : tie.Need-overflow-add-i invariant-loop decreases-loop
+add-i : tie.Need-overflow_add-i invariant-loop decreases-loop
 add-i c = search rules
 
-loop-less : tie.Need-loop-smaller invariant-loop decreases-loop
+loop-less : tie.Need-loop-i-smaller invariant-loop decreases-loop
 loop-less c = search rules
 
-loop-again : tie.Need-loop-preserved invariant-loop decreases-loop
+loop-again : tie.Need-loop-i-preserved invariant-loop decreases-loop
 loop-again c = (omega arith, simp length-set (omega arith), omega arith)
 
 returns : tie.Need-returns invariant-loop decreases-loop
 returns c = search rules
 
-pub widths-of-spec : {M : Type 1} → statement M
-widths-of-spec =
+pub widths_of_spec : {M : Type 1} → statement M
+widths_of_spec =
     tie.close
     (tie.spec
     invariant-loop

@@ -21,62 +21,62 @@ use Rattle.verdict.proofs.judge.Tie as tie
 -- ---- what is known at a place
 
 -- The query is read.
-abbrev widths : tie.After-read → List ℕ
+abbrev widths : tie.After-read-reading → List ℕ
 widths c = c.before.before.args.widths
 
-abbrev bytes : tie.After-read → List ℕ
+abbrev bytes : tie.After-read-reading → List ℕ
 bytes c = c.before.before.args.bytes.now
 
-constant-fits : (c : tie.After-read) (i : ℕ) → Fits w32 (get_or c.read.result.query.constants i 0)
+constant-fits : (c : tie.After-read-reading) (i : ℕ) → Fits w32 (get_or c.read.result.query.constants i 0)
 constant-fits c i = search rules
 
 -- It is accepted.
-abbrev reading : tie.After-enum-told → tie.After-read
+abbrev reading : tie.In_default → tie.After-read-reading
 reading c = c.before.before.before.before
 
-abbrev query : tie.After-enum-told → Query
+abbrev query : tie.In_default → Query
 query c = (reading c).read.result.query
 
-done : (c : tie.After-enum-told) → (read_of (widths (reading c)) (bytes (reading c))).answer ≡ Done
-done c = ap (λ r. r.answer) (sym (reading c).read.ensures) ∙ c.enum_told.given.1
+done : (c : tie.In_default) → (read_of (widths (reading c)) (bytes (reading c))).answer ≡ Done
+done c = ap (λ r. r.answer) (sym (reading c).read.ensures) ∙ c.enum_told-1.given.1
 
-accepted : (c : tie.After-enum-told) → Accepted (widths (reading c)) (query c)
+accepted : (c : tie.In_default) → Accepted (widths (reading c)) (query c)
 accepted c =
     let r = reading c in
     subst⁻¹ (λ v. Accepted (widths r) v.query) r.read.ensures
     (reading-accepted (widths r) (bytes r) (subst (λ v. (i : ℕ) → get_or v.query.constants i 0 < 2 ^ 32) r.read.ensures (λ i. (constant-fits r i).fits)) (done c))
 
-found-columns : (c : tie.After-enum-told) → (reading c).read.result.columns ≡ columns_of (columns (formula (query c)))
+found-columns : (c : tie.In_default) → (reading c).read.result.columns ≡ columns_of (columns (formula (query c)))
 found-columns c =
     let r = reading c in
     subst⁻¹ (λ v. v.columns ≡ columns_of (columns (formula v.query))) r.read.ensures (read-columns (widths r) (bytes r) (done c))
 
 -- ---- the needs
 
-read-requires : tie.Need-read-requires
+read-requires : tie.Need-read-reading-requires
 read-requires c κs = search rules
 
-enum-known-answer : tie.Need-enum-known-answer
+enum-known-answer : tie.Need-enum_known-answer
 enum-known-answer c = search rules
 
 refused-requires : tie.Need-refused-requires
 refused-requires c κs = search rules
 
-returns : tie.Need-returns
+returns : tie.Need-returns-in-Refused
 returns c =
     let t = c.before.before in let r = t.before.before.before.before in
-    c.refused.ensures ∙ refused-with (widths r) (bytes r) r.read.result _ _ r.read.ensures t.answer.given.1
+    c.refused.ensures ∙ refused-with (widths r) (bytes r) r.read-reading.result _ _ r.read-reading.ensures t.answer-1.given.1
 
-enum_told : tie.Need-enum-told
+enum_told : tie.Need-enum_told-1
 enum_told c = search rules
 
 judged-requires : tie.Need-judged-requires
 judged-requires c κs = ((widths (reading c), accepted c), found-columns c)
 
-returns-2 : tie.Need-returns-2
+returns-2 : tie.Need-returns
 returns-2 c =
     let r = reading c.before in
     c.judged.ensures ∙ ap (λ v. judged v.query) r.read.ensures ∙ sym (verdict-done (widths r) (bytes r) (done c.before))
 
-pub judge-spec : {M : Type 1} → statement M
-judge-spec = tie.close (tie.spec read-requires enum-known-answer refused-requires returns enum_told judged-requires returns-2)
+pub judge_spec : {M : Type 1} → statement M
+judge_spec = tie.close (tie.spec read-requires enum-known-answer refused-requires returns enum_told judged-requires returns-2)

@@ -46,78 +46,78 @@ small-columns : (c : tie.Start) (x : ℕ) → In x (variables_in (given-columns 
 small-columns c x i = column-small (query c) x (subst (In x) (given-variables c) i)
 
 -- Its form is made.
-is-form : (c : tie.After-form-of) → IsForm c.form_of.result.nodes c.form_of.result.node_count
+is-form : (c : tie.After-form_of-form) → IsForm c.form_of.result.nodes c.form_of.result.node_count
 is-form c =
     let a = accepted c.before in
-    subst⁻¹ (λ f. IsForm f.nodes f.node_count) c.form_of.ensures (form_is a.0 (query c.before) a.1)
+    subst⁻¹ (λ f. IsForm f.nodes f.node_count) c.form_of-form.ensures (form_is a.0 (query c.before) a.1)
 
 -- The sets of its nodes are found.
-abbrev formed : tie.After-generated → tie.After-form-of
+abbrev formed : tie.After-generated-sets → tie.After-form_of-form
 formed c = c.before.before.before
 
-abbrev sets : tie.After-generators → tie.After-generated
+abbrev sets : tie.After-generators-generators → tie.After-generated-sets
 sets c = c.before.before.before.before.before.before
 
-root-set : (c : tie.After-generators) → let f = (formed (sets c)).form_of.result in get_or (sets c).generated.result.plains (f.node_count - 1) 0 ≡ plain_bits f.nodes (f.node_count - 1)
+root-set : (c : tie.After-generators-generators) → let f = (formed (sets c)).form_of.result in get_or (sets c).generated.result.plains (f.node_count - 1) 0 ≡ plain_bits f.nodes (f.node_count - 1)
 root-set c =
     let f = (formed (sets c)).form_of.result in
     ap (λ s. get_or s.plains (f.node_count - 1) 0) (sets c).generated.ensures ∙ plains_at f.nodes f.node_count (f.node_count - 1) (omega (arith, (is-form (formed (sets c))).some_node))
 
 -- All is found.
-abbrev reported : tie.After-unranged → tie.After-generators
+abbrev reported : tie.After-unranged-unranged → tie.After-generators-generators
 reported c = c.before.before.before.before
 
-finished : (c : tie.After-unranged) (b : Bool) → let u = c.before.before.before.ungenerated.result in let w = c.unranged.result in b ≡ (eqb u 0 && eqb w 0)
+finished : (c : tie.After-unranged-unranged) (b : Bool) → let u = c.before.before.before.ungenerated-ungenerated.result in let w = c.unranged-unranged.result in b ≡ (eqb u 0 && eqb w 0)
     → let f = formed (sets (reported c)) in
     reply f.form_of.result (given-columns f.before) (reported c).generators.result u w b ≡ judged (query f.before)
 finished c b e =
     let g = reported c in let f = formed (sets g) in let s = f.before in let a = accepted s in
-    assembled a.0 (query s) a.1 f.form_of.result (given-columns s) g.generators.result c.before.before.before.ungenerated.result c.unranged.result b
+    assembled a.0 (query s) a.1 f.form_of.result (given-columns s) g.generators.result c.before.before.before.ungenerated-ungenerated.result c.unranged-unranged.result b
     f.form_of.ensures (columns-right s) g.generators.ensures
-    (c.before.before.before.ungenerated.ensures ∙ ap (λ m. missing_from m (variables_in (given-columns s))) (root-set g))
-    c.unranged.ensures e
+    (c.before.before.before.ungenerated-ungenerated.ensures ∙ ap (λ m. missing_from m (variables_in (given-columns s))) (root-set g))
+    c.unranged-unranged.ensures e
 
 -- ---- the needs
 
-form-of-requires : tie.Need-form-of-requires
+form-of-requires : tie.Need-form_of-form-requires
 form-of-requires c κs = accepted c
 
-generated-requires : tie.Need-generated-requires
+generated-requires : tie.Need-generated-sets-requires
 generated-requires c κs = is-form c.before.before
 
-generators-requires : tie.Need-generators-requires
+generators-requires : tie.Need-generators-generators-requires
 generators-requires c κs =
     let s = c.before.before.before.before.before in let f = formed s in
-    ((is-form f, ap (λ v. v.plains) s.generated.ensures, ap (λ v. v.denieds) s.generated.ensures), (few_columns f.before, small-columns f.before))
+    ((is-form f, ap (λ v. v.plains) s.generated-sets.ensures, ap (λ v. v.denieds) s.generated-sets.ensures), (few_columns f.before, small-columns f.before))
 
-sub-ungenerated : tie.Need-overflow-sub-ungenerated
+sub-ungenerated : tie.Need-overflow_sub-n
 sub-ungenerated c = omega (arith, (is-form (formed (sets c))).some_node)
 
-mul-ungenerated : tie.Need-overflow-mul-ungenerated
+mul-ungenerated : tie.Need-offset_bounds-plains-n
 mul-ungenerated c = record { fits = omega (arith, (is-form (formed (sets c))).few_nodes) }
 
-array-read-ungenerated : tie.Need-array-read-ungenerated
+array-read-ungenerated : tie.Need-bounds-plains-n
 array-read-ungenerated c = omega (arith, (is-form (formed (sets c))).few_nodes)
 
-ungenerated-requires : tie.Need-ungenerated-requires
+ungenerated-requires : tie.Need-ungenerated-ungenerated-requires
 ungenerated-requires c κs = few_columns (formed (sets c)).before
 
-unranged-requires : tie.Need-unranged-requires
+unranged-requires : tie.Need-unranged-unranged-requires
 unranged-requires c κs =
     let s = sets c.before.before.before in (is-form (formed s), ap (λ v. v.plains) s.generated.ensures)
 
-returns : tie.Need-returns
+returns : tie.Need-returns-then-ungenerated-eq0
 returns c =
-    let u = c.before.before.before.before.ungenerated.result in
-    finished c.before (eqb c.before.unranged.result 0) (and-left-to (eqb u 0) (eqb c.before.unranged.result 0) (eq-eqb u 0 c.if1.true))
+    let u = c.before.before.before.before.ungenerated-ungenerated.result in
+    finished c.before (eqb c.before.unranged-unranged.result 0) (and-left-to (eqb u 0) (eqb c.before.unranged-unranged.result 0) (eq-eqb u 0 c.if-ungenerated-eq0.true))
 
-returns-2 : tie.Need-returns-2
+returns-2 : tie.Need-returns-else-ungenerated-eq0
 returns-2 c =
-    let u = c.before.before.before.before.ungenerated.result in
-    finished c.before (eqb u 0) (and-settled (eqb u 0) (eqb c.before.unranged.result 0) (ne_eqb u 0 c.if1.false))
+    let u = c.before.before.before.before.ungenerated-ungenerated.result in
+    finished c.before (eqb u 0) (and-settled (eqb u 0) (eqb c.before.unranged-unranged.result 0) (ne_eqb u 0 c.if-ungenerated-eq0.false))
 
-pub judged-spec : {M : Type 1} → statement M
-judged-spec =
+pub judged_spec : {M : Type 1} → statement M
+judged_spec =
     tie.close
     (tie.spec
     form-of-requires

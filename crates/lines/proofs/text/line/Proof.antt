@@ -29,9 +29,9 @@ module _ (at middle end : ℕ) (text ns out mid now : List ℕ) (w : (middle, mi
   fed = wrote-byte at end (text ++ spaced ns) out now 10 both ∙ ap (λ t. wrote at t out) (append_assoc text (spaced ns) (10 ∷ []))
 
 -- The word and the numbers are written.
-module _ (c : tie.After-numbers) where
-  abbrev worded : tie.After-bytes
-  worded = c.before.before.before.before
+module _ (c : tie.After-numbers-end) where
+  abbrev worded : tie.After-bytes-middle
+  worded = c
 
   abbrev start : tie.Start
   start = worded.before.before.before.before.before
@@ -42,40 +42,40 @@ module _ (c : tie.After-numbers) where
   count : length listed ≡ start.args.k
   count = let a = start.args in length-take-le a.k (drop a.from a.list.now) (omega (arith, length-drop a.from a.list.now))
 
-  room : (c.numbers.result + 1 ≤ length c.numbers.new.1.1.1.0) × (c.numbers.result ≤ 300000)
+  room : (c.numbers-end.result + 1 ≤ length c.numbers-end.new.1.1.1.0) × (c.numbers-end.result ≤ 300000)
   room =
-      let a = start.args in let w = worded.bytes in let n = c.numbers in
+      let a = start.args in let w = worded.bytes in let n = c.numbers-end in
       let e = ends a.at w.result n.result a.text.now listed a.out.now w.last.1.0 n.new.1.1.1.0 w.ensures n.ensures in
       let k = kept a.at w.result n.result a.text.now listed a.out.now w.last.1.0 n.new.1.1.1.0 w.ensures n.ensures in
       (omega (arith, e, k, count), omega (arith, e, count))
 
-bytes-requires : tie.Need-bytes-requires
+bytes-requires : tie.Need-bytes-middle-requires
 bytes-requires c κs = search rules
 
-numbers-requires : tie.Need-numbers-requires
+numbers-requires : tie.Need-numbers-end-requires
 numbers-requires c κs =
-    let d = c.before.before.before in let w = d.bytes in let a = d.before.before.before.before.before.args in
+    let d = c.before.before.before in let w = d.bytes-middle in let a = d.before.before.before.before.before.args in
     let e = wrote-end a.at w.result a.text.now a.out.now w.new.1.0 w.ensures in
     let k = wrote-length a.at w.result a.text.now a.out.now w.new.1.0 w.ensures in
     (omega arith, omega arith, omega (arith, e, k), omega (arith, e))
 
-slice-write-out : tie.Need-slice-write-out
+slice-write-out : tie.Need-bounds-out-end
 slice-write-out c = omega (arith, (room c.before.before).0)
 
-add-result : tie.Need-overflow-add-result
+add-result : tie.Need-overflow_add-result
 add-result c = record { fits = omega (arith, (room c.before.before).1) }
 
-same_length : tie.Need-same-length
+same_length : tie.Need-shape_of-out
 same_length c =
-    let d = c.before.before in let a = (start d).args in let w = (worded d).bytes in let n = d.numbers in
+    let d = c.before.before in let a = (start d).args in let w = (worded d).bytes in let n = d.numbers-end in
     simp length-set (kept a.at w.result n.result a.text.now (listed d) a.out.now w.last.1.0 n.new.1.1.1.0 w.ensures n.ensures)
 
 returns : tie.Need-returns
 returns c =
-    let d = c.before.before in let a = (start d).args in let w = (worded d).bytes in let n = d.numbers in
+    let d = c.before.before in let a = (start d).args in let w = (worded d).bytes in let n = d.numbers-end in
     fed a.at w.result n.result a.text.now (listed d) a.out.now w.last.1.0 n.new.1.1.1.0 w.ensures n.ensures
 
-pub line-spec : {M : Type 1} → statement M
-line-spec =
+pub line_spec : {M : Type 1} → statement M
+line_spec =
     tie.close
     (tie.spec bytes-requires numbers-requires slice-write-out add-result same_length returns)

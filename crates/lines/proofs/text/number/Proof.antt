@@ -16,16 +16,16 @@ after-space : (at r n : ℕ) (out after : List ℕ) → (r, after) ≡ wrote (at
 unfolding decimal
 after-space at r n out after e = wrote_then at (at + 1) r (32 ∷ []) (digits 10 n) out (set out at 32) after refl e
 
-slice-write-out : tie.Need-slice-write-out
+slice-write-out : tie.Need-bounds-out-at
 slice-write-out c = search rules
 
-add-digits : tie.Need-overflow-add-digits
+add-digits : tie.Need-overflow_add-at
 add-digits c = search rules
 
 digits-requires : tie.Need-digits-requires
 digits-requires c κs = let a = c.before.before.args in (omega arith, omega (arith, length-set a.out.now a.at 32), omega arith)
 
-same_length : tie.Need-same-length
+same_length : tie.Need-shape_of-out
 same_length c =
     let d = c.before.before.digits in let a = c.before.before.before.before.before.args in
     wrote-length (a.at + 1) d.result (digits 10 a.n) (set a.out.now a.at 32) d.new.1.1.0 d.ensures ∙ length-set a.out.now a.at 32
@@ -35,6 +35,6 @@ returns c =
     let d = c.before.before.digits in let a = c.before.before.before.before.before.args in
     after-space a.at d.result a.n a.out.now d.new.1.1.0 d.ensures
 
-pub number-spec : {M : Type 1} → statement M
-number-spec =
+pub number_spec : {M : Type 1} → statement M
+number_spec =
     tie.close (tie.spec slice-write-out add-digits digits-requires same_length returns)

@@ -43,55 +43,55 @@ module _ (list : List ℕ) (from i at end : ℕ) (out₀ out : List ℕ) (w : (e
   kept : length out ≡ length out₀
   kept = wrote-length at end (spaced (firsts list from i)) out₀ out w
 
-abbrev invariant-loop : tie.invariant-loop
+abbrev invariant-loop : tie.invariant-loop-i
 invariant-loop list from k out₀ at i₀ end₀ out i end = (i ≤ k) × ((end, out) ≡ wrote at (spaced (firsts list from i)) out₀)
 
-abbrev decreases-loop : tie.decreases-loop
+abbrev decreases-loop : tie.decreases-loop-i
 decreases-loop list from k out₀ at i₀ end₀ out i end = k - i
 
-loop-holds : tie.Need-loop-init invariant-loop decreases-loop
+loop-holds : tie.Need-loop-i-init invariant-loop decreases-loop
 loop-holds c = let a = c.before.before.args in (omega arith, wrote_none a.at a.out.now)
 
-add-number : tie.Need-overflow-add-number invariant-loop decreases-loop
+add-number : tie.Need-overflow_add-from invariant-loop decreases-loop
 add-number c = search rules
 
-mul-number : tie.Need-overflow-mul-number invariant-loop decreases-loop
+mul-number : tie.Need-offset_bounds-list-from invariant-loop decreases-loop
 mul-number c = search rules
 
-shared-slice-read-number : tie.Need-shared-slice-read-number invariant-loop decreases-loop
+shared-slice-read-number : tie.Need-bounds-list-from invariant-loop decreases-loop
 shared-slice-read-number c = search rules
 
-number-requires : tie.Need-number-requires invariant-loop decreases-loop
+number-requires : tie.Need-number-end-requires invariant-loop decreases-loop
 number-requires c κs =
-    let l = c.before.before.before.loop in let a = c.before.before.before.before.before.before.args in
+    let l = c.before.before.before.loop-i in let a = c.before.before.before.before.before.before.args in
     let e = ends a.list.now a.from l.i a.at l.end a.out.now l.out l.invariant.1 (omega arith) in
     let k = kept a.list.now a.from l.i a.at l.end a.out.now l.out l.invariant.1 in
     (omega (arith, e, k), omega (arith, e))
 
-add-i : tie.Need-overflow-add-i invariant-loop decreases-loop
+add-i : tie.Need-overflow_add-i invariant-loop decreases-loop
 add-i c = search rules
 
-loop-less : tie.Need-loop-smaller invariant-loop decreases-loop
+loop-less : tie.Need-loop-i-smaller invariant-loop decreases-loop
 loop-less c = search rules
 
-loop-again : tie.Need-loop-preserved invariant-loop decreases-loop
+loop-again : tie.Need-loop-i-preserved invariant-loop decreases-loop
 loop-again c =
-    let d = c.before.before in let l = d.before.before.before.before.loop in let a = d.before.before.before.before.before.before.before.args in
-    (omega arith, next a.list.now a.from l.i a.at l.end a.out.now l.out l.invariant.1 d.number.result d.number.new.1.0 (omega arith) d.number.ensures)
+    let d = c.before.before in let l = d.before.before.before.before.loop-i in let a = d.before.before.before.before.before.before.before.args in
+    (omega arith, next a.list.now a.from l.i a.at l.end a.out.now l.out l.invariant.1 d.number-end.result d.number-end.new.1.0 (omega arith) d.number-end.ensures)
 
-same_length : tie.Need-same-length invariant-loop decreases-loop
+same_length : tie.Need-shape_of-out invariant-loop decreases-loop
 same_length c =
-    let l = c.before.loop in let a = c.before.before.before.before.args in
+    let l = c.before.loop-i in let a = c.before.before.before.before.args in
     kept a.list.now a.from l.i a.at l.end a.out.now l.out l.invariant.1
 
 returns : tie.Need-returns invariant-loop decreases-loop
 returns c =
-    let l = c.before.loop in let a = c.before.before.before.before.args in
+    let l = c.before.loop-i in let a = c.before.before.before.before.args in
     let e : l.i ≡ a.k = omega arith in
     l.invariant.1 ∙ ap (λ k. wrote a.at (spaced (firsts a.list.now a.from k)) a.out.now) e
 
-pub numbers-spec : {M : Type 1} → statement M
-numbers-spec =
+pub numbers_spec : {M : Type 1} → statement M
+numbers_spec =
     tie.close
     (tie.spec
     invariant-loop

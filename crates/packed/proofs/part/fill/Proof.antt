@@ -28,45 +28,45 @@ next bs f₀ f i r g e d h =
     ∙ ap (collect_all f₀) (sym (tabulate-next (record_at bs) i))
     ∙ ap (collected-up bs f₀) (sym (add-one i))
 
-abbrev invariant-loop : tie.invariant-loop
+abbrev invariant-loop : tie.invariant-loop-i
 invariant-loop bytes n f₀ i₀ f i = (i ≤ n) × (f ≡ collected-up bytes f₀ i)
 
-abbrev decreases-loop : tie.decreases-loop
+abbrev decreases-loop : tie.decreases-loop-i
 decreases-loop bytes n f₀ i₀ f i = n - i
 
-begin-requires : tie.Need-begin-requires invariant-loop decreases-loop
+begin-requires : tie.Need-begin-f-requires invariant-loop decreases-loop
 begin-requires c κs = search rules
 
-loop-holds : tie.Need-loop-init invariant-loop decreases-loop
+loop-holds : tie.Need-loop-i-init invariant-loop decreases-loop
 loop-holds c = (omega arith, refl)
 
-mul-record : tie.Need-overflow-mul-record invariant-loop decreases-loop
+mul-record : tie.Need-overflow_mul-i invariant-loop decreases-loop
 mul-record c = search rules
 
-add-record : tie.Need-overflow-add-record invariant-loop decreases-loop
+add-record : tie.Need-overflow_add-i invariant-loop decreases-loop
 add-record c = search rules
 
-record-requires : tie.Need-record-requires invariant-loop decreases-loop
+record-requires : tie.Need-record-r-requires invariant-loop decreases-loop
 record-requires c κs = search rules
 
-collect-requires : tie.Need-collect-requires invariant-loop decreases-loop
+collect-requires : tie.Need-collect-f-requires invariant-loop decreases-loop
 collect-requires c κs = search rules
 
-add-i : tie.Need-overflow-add-i invariant-loop decreases-loop
+add-i : tie.Need-overflow_add-i-in-loop-i invariant-loop decreases-loop
 add-i c = search rules
 
-loop-less : tie.Need-loop-smaller invariant-loop decreases-loop
+loop-less : tie.Need-loop-i-smaller invariant-loop decreases-loop
 loop-less c = search rules
 
-loop-again : tie.Need-loop-preserved invariant-loop decreases-loop
+loop-again : tie.Need-loop-i-preserved invariant-loop decreases-loop
 loop-again c =
-    let r = c.before in let l = r.before.before.loop in let b = r.before.before.before in let s = b.before.before.args in
-    (omega arith, next s.bytes.now b.begin.result l.f l.i r.«record».result c.collect.result l.invariant.1 r.«record».ensures c.collect.ensures)
+    let r = c.before in let l = r.before.before.loop-i in let b = r.before.before.before in let s = b.before.before.args in
+    (omega arith, next s.bytes.now b.begin-f.result l.f l.i r.«record».result c.collect-f.result l.invariant.1 r.«record».ensures c.collect-f.ensures)
 
 returns : tie.Need-returns invariant-loop decreases-loop
 returns c =
-    let l = c.before.loop in let b = c.before.before in let s = b.before.before.args in let e : l.i ≡ s.n = omega arith in
-    l.invariant.1 ∙ (λ j. collected-up s.bytes.now (b.begin.ensures j) (e j))
+    let l = c.before.loop-i in let b = c.before.before in let s = b.before.before.args in let e : l.i ≡ s.n = omega arith in
+    l.invariant.1 ∙ (λ j. collected-up s.bytes.now (b.begin-f.ensures j) (e j))
 
 pub fill_spec : {M : Type 1} → statement M
 fill_spec =

@@ -39,36 +39,36 @@ module _ (bs : List ℕ) where
 broken-requires : tie.Need-broken-requires
 broken-requires c κs = search rules
 
-returns : tie.Need-returns
-returns c = c.broken.ensures ∙ sym (too_long c.before.before.before.args.bytes.now c.before.if1.true)
+returns : tie.Need-returns-then-n-gt-LIMIT
+returns c = c.broken.ensures ∙ sym (too_long c.before.before.before.args.bytes.now c.before.if-n-gt-LIMIT.true)
 
-broken-requires-2 : tie.Need-broken-requires-2
+broken-requires-2 : tie.Need-broken-requires-then-n-lt-HEAD
 broken-requires-2 c κs = search rules
 
-returns-2 : tie.Need-returns-2
-returns-2 c = c.broken2.ensures ∙ sym (too_short c.before.before.before.before.args.bytes.now c.before.before.if1.false c.before.if2.true)
+returns-2 : tie.Need-returns-then-n-lt-HEAD
+returns-2 c = c.broken-then-n-lt-HEAD.ensures ∙ sym (too_short c.before.before.before.before.args.bytes.now c.before.before.if-n-gt-LIMIT.false c.before.if-n-lt-HEAD.true)
 
-read-head-requires : tie.Need-read-head-requires
+read-head-requires : tie.Need-read_head-head-requires
 read-head-requires c κs = search rules
 
-mul-if3 : tie.Need-overflow-mul-if3
+mul-if3 : tie.Need-overflow_mul-count
 mul-if3 c = search rules
 
-add-if3 : tie.Need-overflow-add-if3
+add-if3 : tie.Need-overflow_add-count
 add-if3 c = search rules
 
-broken-requires-3 : tie.Need-broken-requires-3
+broken-requires-3 : tie.Need-broken-requires-then-n-count
 broken-requires-3 c κs = search rules
 
-returns-3 : tie.Need-returns-3
+returns-3 : tie.Need-returns-then-n-count
 returns-3 c =
     let n = c.before.before in
-    c.broken3.ensures ∙ sym (cut_off n.before.before.before.before.args.bytes.now n.before.before.if1.false n.before.if2.false n.read_head.result n.read_head.ensures.0 c.before.if3.true)
+    c.broken-then-n-count.ensures ∙ sym (cut_off n.before.before.before.before.args.bytes.now n.before.before.if-n-gt-LIMIT.false n.before.if-n-lt-HEAD.false n.read_head-head.result n.read_head-head.ensures.0 c.before.if-n-count.true)
 
-returns-4 : tie.Need-returns-4
+returns-4 : tie.Need-returns
 returns-4 c =
     let n = c.before in
-    sym (whole n.before.before.before.before.args.bytes.now n.before.before.if1.false n.before.if2.false n.read_head.result n.read_head.ensures.0 c.if3.false)
+    sym (whole n.before.before.before.before.args.bytes.now n.before.before.if-n-gt-LIMIT.false n.before.if-n-lt-HEAD.false n.read_head-head.result n.read_head-head.ensures.0 c.if-n-count.false)
 
-pub measure-spec : {M : Type 1} → statement M
-measure-spec = tie.close (tie.spec broken-requires returns broken-requires-2 returns-2 read-head-requires mul-if3 add-if3 broken-requires-3 returns-3 returns-4)
+pub measure_spec : {M : Type 1} → statement M
+measure_spec = tie.close (tie.spec broken-requires returns broken-requires-2 returns-2 read-head-requires mul-if3 add-if3 broken-requires-3 returns-3 returns-4)

@@ -8,58 +8,58 @@ use Rattle.query.specs.Code.Fields.Laws.{some-tested, kind-read, kind-not-read}
 use Rattle.query.proofs.fault.has_stray.Statement.{statement}
 use Rattle.query.proofs.fault.has_stray.Tie as tie
 
-fields-requires : tie.Need-fields-requires
+fields-requires : tie.Need-fields-f-requires
 fields-requires c κs = search rules
 
-array-read-is-past : tie.Need-array-read-is-past
+array-read-is-past : tie.Need-bounds-terms-0
 array-read-is-past c = search rules
 
-is-past-requires : tie.Need-is-past-requires
+is-past-requires : tie.Need-is_past-requires
 is-past-requires c κs = search rules
 
-array-read-is-past-2 : tie.Need-array-read-is-past-2
+array-read-is-past-2 : tie.Need-bounds-terms-1
 array-read-is-past-2 c = search rules
 
-is-past-requires-2 : tie.Need-is-past-requires-2
+is-past-requires-2 : tie.Need-is_past-requires-in-1
 is-past-requires-2 c κs = search rules
 
-array-read-is-past-3 : tie.Need-array-read-is-past-3
+array-read-is-past-3 : tie.Need-bounds-terms-2
 array-read-is-past-3 c = search rules
 
-is-past-requires-3 : tie.Need-is-past-requires-3
+is-past-requires-3 : tie.Need-is_past-requires-in-1-2
 is-past-requires-3 c κs = search rules
 
-array-read-is-past-4 : tie.Need-array-read-is-past-4
+array-read-is-past-4 : tie.Need-bounds-terms-3
 array-read-is-past-4 c = search rules
 
-is-past-requires-4 : tie.Need-is-past-requires-4
+is-past-requires-4 : tie.Need-is_past-requires-in-1-3
 is-past-requires-4 c κs = search rules
 
-some-of-requires : tie.Need-some-of-requires
+some-of-requires : tie.Need-some_of-requires
 some-of-requires c κs = search rules
 
-is-past-requires-5 : tie.Need-is-past-requires-5
+is-past-requires-5 : tie.Need-is_past-requires-in-2
 is-past-requires-5 c κs = search rules
 
-returns : tie.Need-returns
+returns : tie.Need-returns-in-1
 returns c =
-    let d = c.before.before.before.before.before in let f = d.before.before in let n = f.fields.ensures in let x = f.before.args in
-    rw (kind-read n d.match.keys1)
-    (rw (c.before.before.before.before.is_past.ensures, c.before.before.before.is-past2.ensures, c.before.before.is-past3.ensures, c.before.is-past4.ensures, n.reads) at c.Some-of.ensures
+    let d = c.before.before.before.before.before in let f = d.before.before in let n = f.fields-f.ensures in let x = f.before.args in
+    rw (kind-read n d.in-1.keys1)
+    (rw (c.before.before.before.before.is_past.ensures, c.before.before.before.is_past-in-1.ensures, c.before.before.is_past-in-1-2.ensures, c.before.is_past-in-1-3.ensures, n.reads) at c.Some-of.ensures
     ∙ some-tested (is_stray x.constants) (term_count x.w) (terms x.w))
 
-returns-2 : tie.Need-returns-2
+returns-2 : tie.Need-returns-in-2
 returns-2 c =
-    let n = c.before.before.before.fields.ensures in
-    rw (kind-read n c.before.match.keys2, or-false) (rw n.reads at c.is-past5.ensures)
+    let n = c.before.before.before.fields-f.ensures in
+    rw (kind-read n c.before.in-2.keys2, or-false) (rw n.reads at c.is_past-in-2.ensures)
 
-returns-3 : tie.Need-returns-3
+returns-3 : tie.Need-returns-in_default
 returns-3 c =
-    let f = c.before.before in let n = f.fields.ensures in
-    rw (terms-none f.before.args.w (kind-not-read n c.match.rest.0.1) (kind-not-read n c.match.rest.1))
+    let f = c.before.before in let n = f.fields-f.ensures in
+    rw (terms-none f.before.args.w (kind-not-read n c.in_default.rest.0.1) (kind-not-read n c.in_default.rest.1))
 
-pub has-stray-spec : {M : Type 1} → statement M
-has-stray-spec =
+pub has_stray_spec : {M : Type 1} → statement M
+has_stray_spec =
     tie.close
     (tie.spec
     fields-requires

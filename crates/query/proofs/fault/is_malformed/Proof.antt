@@ -13,56 +13,56 @@ use Rattle.query.proofs.fault.is_malformed.Tie as tie
 
 -- ---- what is known past the first test: the node, and that its kind is known
 
-abbrev word : tie.Else1 → ℕ
+abbrev word : tie.Else-kind-gt6 → ℕ
 word c = c.before.before.before.args.w
 
-node : (c : tie.Else1) → NodeOf (word c) c.before.before.fields.result
-node c = c.before.before.fields.ensures
+node : (c : tie.Else-kind-gt6) → NodeOf (word c) c.before.before.fields.result
+node c = c.before.before.fields-f.ensures
 
-known : (c : tie.Else1) → kind (word c) < 7
-known c = let k = ap (λ g. g.kind) (node c).reads in omega (arith, k, c.if1.false)
+known : (c : tie.Else-kind-gt6) → kind (word c) < 7
+known c = let k = ap (λ g. g.kind) (node c).reads in omega (arith, k, c.if-kind-gt6.false)
 
 -- ---- the needs
 
-fields-requires : tie.Need-fields-requires
+fields-requires : tie.Need-fields-f-requires
 fields-requires c κs = search rules
 
-returns : tie.Need-returns
-returns c = let f = c.before.before in let k = ap (λ g. g.kind) f.fields.ensures.reads in sym (malformed-kind f.before.args.w (omega (arith, k)) (λ e. omega (arith, k)))
+returns : tie.Need-returns-then-kind-gt6
+returns c = let f = c.before.before in let k = ap (λ g. g.kind) f.fields-f.ensures.reads in sym (malformed-kind f.before.args.w (omega (arith, k)) (λ e. omega (arith, k)))
 
 rest-requires : tie.Need-rest-requires
 rest-requires c κs = search rules
 
-returns-2 : tie.Need-returns-2
-returns-2 c = rw (malformed-rest (word c.before.before) (known c.before.before), sym c.before.rest.ensures, ne_eqb c.before.rest.result 0 c.if2.true)
+returns-2 : tie.Need-returns-then-rest-ne0
+returns-2 c = rw (malformed-rest (word c.before.before) (known c.before.before), sym c.before.rest.ensures, ne_eqb c.before.rest.result 0 c.if-rest-ne0.true)
 
-returns-3 : tie.Need-returns-3
+returns-3 : tie.Need-returns-then-kind-ne1
 returns-3 c =
     let l = c.before.before.before in let w = word l in
-    rw (malformed-rest w (known l), sym c.before.before.rest.ensures, c.before.if2.false, ne_eqb (kind w) 1 (kind-not-read (node l) c.if3.true))
+    rw (malformed-rest w (known l), sym c.before.before.rest.ensures, c.before.if-rest-ne0.false, ne_eqb (kind w) 1 (kind-not-read (node l) c.if-kind-ne1.true))
 
-array-read-set-past : tie.Need-array-read-set-past
+array-read-set-past : tie.Need-bounds-terms-0
 array-read-set-past c = search rules
 
-array-read-set-past-2 : tie.Need-array-read-set-past-2
+array-read-set-past-2 : tie.Need-bounds-terms-1
 array-read-set-past-2 c = search rules
 
-array-read-set-past-3 : tie.Need-array-read-set-past-3
+array-read-set-past-3 : tie.Need-bounds-terms-2
 array-read-set-past-3 c = search rules
 
-array-read-set-past-4 : tie.Need-array-read-set-past-4
+array-read-set-past-4 : tie.Need-bounds-terms-3
 array-read-set-past-4 c = search rules
 
-set-past-requires : tie.Need-set-past-requires
+set-past-requires : tie.Need-set_past-requires
 set-past-requires c κs = search rules
 
-returns-4 : tie.Need-returns-4
+returns-4 : tie.Need-returns
 returns-4 c =
     let l = c.before.before.before.before in let w = word l in
-    rw (malformed-rest w (known l), sym c.before.before.before.rest.ensures, c.before.before.if2.false, kind-read (node l) c.before.if3.false) (rw (node l).reads at c.set_past.ensures)
+    rw (malformed-rest w (known l), sym c.before.before.before.rest.ensures, c.before.before.if-rest-ne0.false, kind-read (node l) c.before.if-kind-ne1.false) (rw (node l).reads at c.set_past.ensures)
 
-pub is-malformed-spec : {M : Type 1} → statement M
-is-malformed-spec =
+pub is_malformed_spec : {M : Type 1} → statement M
+is_malformed_spec =
     tie.close
     (tie.spec
     fields-requires

@@ -3,11 +3,11 @@ use borrow.Author.Tests.{le-leb, lt-leb}
 use Rattle.query.proofs.fault.is_past.Statement.{statement}
 use Rattle.query.proofs.fault.is_past.Tie as tie
 
-returns : tie.Need-returns
-returns c = rw (lt-leb 16 c.before.args.term c.if1.true)
+returns : tie.Need-returns-then-term-lt16
+returns c = rw (lt-leb 16 c.before.args.term c.if-term-lt16.true)
 
-returns-2 : tie.Need-returns-2
-returns-2 c = rw (le-leb 16 c.before.args.term c.if1.false)
+returns-2 : tie.Need-returns
+returns-2 c = rw (le-leb 16 c.before.args.term c.if-term-lt16.false)
 
-pub is-past-spec : {M : Type 1} → statement M
-is-past-spec = tie.close (tie.spec returns returns-2)
+pub is_past_spec : {M : Type 1} → statement M
+is_past_spec = tie.close (tie.spec returns returns-2)

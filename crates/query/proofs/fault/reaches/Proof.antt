@@ -7,31 +7,31 @@ use Rattle.query.specs.Code.Fields.Laws.{children-not-read, children-exists-read
 use Rattle.query.proofs.fault.reaches.Statement.{statement}
 use Rattle.query.proofs.fault.reaches.Tie as tie
 
-fields-requires : tie.Need-fields-requires
+fields-requires : tie.Need-fields-f-requires
 fields-requires c κs = search rules
 
-returns : tie.Need-returns
-returns c = rw (children-not-read c.before.fields.ensures c.match.keys1, or-false)
+returns : tie.Need-returns-in-3
+returns c = rw (children-not-read c.before.fields-f.ensures c.in-3.keys1, or-false)
 
-returns-2 : tie.Need-returns-2
-returns-2 c = rw (children-exists-read c.before.fields.ensures c.match.keys2, or-false)
+returns-2 : tie.Need-returns-in-6
+returns-2 c = rw (children-exists-read c.before.fields-f.ensures c.in-6.keys2, or-false)
 
-returns-3 : tie.Need-returns-3
+returns-3 : tie.Need-returns-then-i-left
 returns-3 c =
     let f = c.before.before.before.before in
-    rw (children-two-read f.fields.ensures (omega arith) (omega arith), le-leb f.before.args.i f.fields.result.left c.if3.true)
+    rw (children-two-read f.fields-f.ensures (omega arith) (omega arith), le-leb f.before.args.i f.fields-f.result.left c.if-i-left.true)
 
-returns-4 : tie.Need-returns-4
+returns-4 : tie.Need-returns-else-i-left
 returns-4 c =
     let f = c.before.before.before.before in
-    rw (children-two-read f.fields.ensures (omega arith) (omega arith), lt-leb f.before.args.i f.fields.result.left c.if3.false, or-false)
+    rw (children-two-read f.fields-f.ensures (omega arith) (omega arith), lt-leb f.before.args.i f.fields-f.result.left c.if-i-left.false, or-false)
 
-returns-5 : tie.Need-returns-5
-returns-5 c = rw (children-none-read c.before.before.fields.ensures c.before.match.rest.0.1 (λ e. omega arith) (λ e. omega arith) c.before.match.rest.1)
+returns-5 : tie.Need-returns-in_default
+returns-5 c = rw (children-none-read c.before.before.fields-f.ensures c.before.in_default-1.rest.0.1 (λ e. omega arith) (λ e. omega arith) c.before.in_default-1.rest.1)
 
-returns-6 : tie.Need-returns-6
-returns-6 c = rw (children-none-read c.before.before.before.fields.ensures c.before.before.match.rest.0.1 (λ e. omega arith) (λ e. omega arith) c.before.before.match.rest.1)
+returns-6 : tie.Need-returns-in_default-2
+returns-6 c = rw (children-none-read c.before.before.before.fields-f.ensures c.before.before.in_default-1.rest.0.1 (λ e. omega arith) (λ e. omega arith) c.before.before.in_default-1.rest.1)
 
-pub reaches-spec : {M : Type 1} → statement M
-reaches-spec =
+pub reaches_spec : {M : Type 1} → statement M
+reaches_spec =
     tie.close (tie.spec fields-requires returns returns-2 returns-3 returns-4 returns-5 returns-6)

@@ -13,39 +13,39 @@ use Rattle.query.specs.Code.Free.Sets.{Left, left-all, left-next, left-found, le
 use Rattle.query.proofs.free.columns.Statement.{statement}
 use Rattle.query.proofs.free.columns.Tie as tie
 
-abbrev invariant-loop : tie.invariant-loop
+abbrev invariant-loop : tie.invariant-loop-x
 invariant-loop nodes n rest₀ variables₀ count₀ x₀ rest variables count x = (x ≤ 16) × Found (root (take n nodes)) x variables count × Left (root (take n nodes)) x rest
 
-abbrev decreases-loop : tie.decreases-loop
+abbrev decreases-loop : tie.decreases-loop-x
 decreases-loop nodes n rest₀ variables₀ count₀ x₀ rest variables count x = 16 - x
 
 -- The query's formula.
 abbrev formula : tie.Start invariant-loop decreases-loop → Fmla
 formula s = root (take s.args.n s.args.nodes.now)
 
-free-set-requires : tie.Need-free-set-requires invariant-loop decreases-loop
+free-set-requires : tie.Need-free_set-rest-requires invariant-loop decreases-loop
 free-set-requires c κs = search rules
 
-loop-holds : tie.Need-loop-init invariant-loop decreases-loop
-loop-holds c = let φ = formula c.before in (omega arith, found_none φ, left-all φ c.free-set.result c.free-set.ensures)
+loop-holds : tie.Need-loop-x-init invariant-loop decreases-loop
+loop-holds c = let φ = formula c.before in (omega arith, found_none φ, left-all φ c.free_set-rest.result c.free_set-rest.ensures)
 
-array-write-variables : tie.Need-array-write-variables invariant-loop decreases-loop
+array-write-variables : tie.Need-bounds-variables-count invariant-loop decreases-loop
 array-write-variables c = search rules
 
-add-count : tie.Need-overflow-add-count invariant-loop decreases-loop
+add-count : tie.Need-overflow_add-count invariant-loop decreases-loop
 add-count c =
-    let h = c.before.before.before in let l = h.loop in
+    let h = c.before.before.before in let l = h.loop-x in
     omega (arith, found-few (formula h.before.before) l.x l.variables l.count l.invariant.1)
 
-add-x : tie.Need-overflow-add-x invariant-loop decreases-loop
+add-x : tie.Need-overflow_add-x invariant-loop decreases-loop
 add-x c = search rules
 
-loop-less : tie.Need-loop-smaller invariant-loop decreases-loop
+loop-less : tie.Need-loop-x-smaller invariant-loop decreases-loop
 loop-less c = search rules
 
-loop-again : tie.Need-loop-preserved invariant-loop decreases-loop
+loop-again : tie.Need-loop-x-preserved invariant-loop decreases-loop
 loop-again c =
-    let h = c.before.before in let l = h.loop in let φ = formula h.before.before in let f = l.invariant.1 in (
+    let h = c.before.before in let l = h.loop-x in let φ = formula h.before.before in let f = l.invariant.1 in (
       omega arith,
       ⊎_elim
           (λ w. let m = left-found φ l.x l.rest (omega arith) l.invariant.2 w.0.taken in ⊎_elim
@@ -53,13 +53,13 @@ loop-again c =
           (λ v. found_as (found-past φ l.x l.variables l.count f m v.0.left) (w.2 ∙ v.1) w.3)
           w.1.came)
           (λ w. found_as (found-missed φ l.x l.variables l.count f (left-missed φ l.x l.rest (omega arith) l.invariant.2 w.0.left)) w.1 w.2)
-          c.if1.branch,
+          c.if-rest-eq1.branch,
       left-next φ l.x l.rest l.invariant.2,
     )
 
 returns : tie.Need-returns invariant-loop decreases-loop
 returns c =
-    let s = c.before.before.before in let l = c.before.loop in let e : l.x ≡ 16 = omega arith in
+    let s = c.before.before.before in let l = c.before.loop-x in let e : l.x ≡ 16 = omega arith in
     found_all (take s.args.n s.args.nodes.now) l.variables l.count (subst (λ k. Found (formula s) k l.variables l.count) e l.invariant.1)
 
 pub columns_spec : {M : Type 1} → statement M

@@ -20,107 +20,107 @@ abbrev child : tie.Start → ℕ → Bool
 child c k = get_or c.args.before.now k false
 
 -- The fields read are those of w.
-read : (c : tie.After-fields) → c.fields.result ≡ fields_of c.before.args.w
-read c = c.fields.ensures.reads
+read : (c : tie.After-fields-f) → c.fields.result ≡ fields_of c.before.args.w
+read c = c.fields-f.ensures.reads
 
-fields-requires : tie.Need-fields-requires
+fields-requires : tie.Need-fields-f-requires
 fields-requires c κs = search rules
 
-array-read-some-of : tie.Need-array-read-some-of
+array-read-some-of : tie.Need-bounds-terms-0
 array-read-some-of c = search rules
 
-array-read-some-of-2 : tie.Need-array-read-some-of-2
+array-read-some-of-2 : tie.Need-bounds-terms-1
 array-read-some-of-2 c = search rules
 
-array-read-some-of-3 : tie.Need-array-read-some-of-3
+array-read-some-of-3 : tie.Need-bounds-terms-2
 array-read-some-of-3 c = search rules
 
-array-read-some-of-4 : tie.Need-array-read-some-of-4
+array-read-some-of-4 : tie.Need-bounds-terms-3
 array-read-some-of-4 c = search rules
 
-some-of-requires : tie.Need-some-of-requires
+some-of-requires : tie.Need-some_of-requires
 some-of-requires c κs = search rules
 
-element-copy-out-result : tie.Need-element-copy-out-result
+element-copy-out-result : tie.Need-bounds-before-left
 element-copy-out-result c = search rules
 
-element-copy-out-result-2 : tie.Need-element-copy-out-result-2
+element-copy-out-result-2 : tie.Need-bounds-before-under
 element-copy-out-result-2 c = search rules
 
-element-copy-out-if5 : tie.Need-element-copy-out-if5
+element-copy-out-if5 : tie.Need-bounds-before-left-in-4
 element-copy-out-if5 c = search rules
 
-element-copy-out-result-3 : tie.Need-element-copy-out-result-3
+element-copy-out-result-3 : tie.Need-bounds-before-right
 element-copy-out-result-3 c = search rules
 
-returns : tie.Need-returns
+returns : tie.Need-returns-in-1
 returns c =
     let f = c.before.before.before in let s = f.before in let x = s.args.x in let w = s.args.w in
-    (rw (read f) at c.Some-of.ensures) ∙ some-tested (eqb x) (term_count w) (terms w) ∙ sym (free-of-kind x w (child s) 1 (kind-read f.fields.ensures c.before.match.keys1))
+    (rw (read f) at c.Some-of.ensures) ∙ some-tested (eqb x) (term_count w) (terms w) ∙ sym (free-of-kind x w (child s) 1 (kind-read f.fields-f.ensures c.before.in-1.keys1))
 
-returns-2 : tie.Need-returns-2
+returns-2 : tie.Need-returns-then-x-variable
 returns-2 c =
     let f = c.before.before.before in let s = f.before in let x = s.args.x in let w = s.args.w in
     rw (read f)
-    (or-settled (eqb x (variable w)) (eqb x (equal_term w)) (eq-eqb x (variable w) (rw (read f) at c.if1.true))
-    ∙ sym (free-of-kind x w (child s) 2 (kind-read f.fields.ensures c.before.match.keys2)))
+    (or-settled (eqb x (variable w)) (eqb x (equal_term w)) (eq-eqb x (variable w) (rw (read f) at c.if-x-variable.true))
+    ∙ sym (free-of-kind x w (child s) 2 (kind-read f.fields-f.ensures c.before.in-2.keys2)))
 
-returns-3 : tie.Need-returns-3
+returns-3 : tie.Need-returns-else-x-variable
 returns-3 c =
     let f = c.before.before.before in let s = f.before in let x = s.args.x in let w = s.args.w in
     rw (read f)
-    (or-left-to (eqb x (variable w)) (eqb x (equal_term w)) (ne_eqb x (variable w) (rw (read f) at c.if1.false))
-    ∙ sym (free-of-kind x w (child s) 2 (kind-read f.fields.ensures c.before.match.keys2)))
+    (or-left-to (eqb x (variable w)) (eqb x (equal_term w)) (ne_eqb x (variable w) (rw (read f) at c.if-x-variable.false))
+    ∙ sym (free-of-kind x w (child s) 2 (kind-read f.fields-f.ensures c.before.in-2.keys2)))
 
-returns-4 : tie.Need-returns-4
+returns-4 : tie.Need-returns-in-3
 returns-4 c =
     let f = c.before.before.before in let s = f.before in
-    rw (read f) (sym (free-of-kind s.args.x s.args.w (child s) 3 (kind-read f.fields.ensures c.before.match.keys3)))
+    rw (read f) (sym (free-of-kind s.before.args.x s.before.args.w (child s) 3 (kind-read f.before.fields-f.ensures c.before.before.in-3.keys3)))
 
-returns-5 : tie.Need-returns-5
+returns-5 : tie.Need-returns-then-x-variable-2
 returns-5 c =
-    let f = c.before.before.before.before in let s = f.before in let x = s.args.x in let w = s.args.w in
+    let f = c.before.before.before.before in let s = f.before in let x = s.before.args.x in let w = s.before.args.w in
     rw (read f)
-    (and-left-to (not (eqb x (variable w))) (child s (under w)) (ap not (ne_eqb x (variable w) (rw (read f) at c.before.if2.true)))
-    ∙ sym (free-of-kind x w (child s) 6 (kind-read f.fields.ensures c.before.before.match.keys4)))
+    (and-left-to (not (eqb x (variable w))) (child s (under w)) (ap not (ne_eqb x (variable w) (rw (read f) at c.before.before.if-x-variable-2.true)))
+    ∙ sym (free-of-kind x w (child s) 6 (kind-read f.before.fields-f.ensures c.before.before.before.in-6.keys4)))
 
-returns-6 : tie.Need-returns-6
+returns-6 : tie.Need-returns-else-x-variable-2
 returns-6 c =
     let f = c.before.before.before in let s = f.before in let x = s.args.x in let w = s.args.w in
     rw (read f)
-    (and-settled (not (eqb x (variable w))) (child s (under w)) (ap not (eq-eqb x (variable w) (rw (read f) at c.if2.false)))
-    ∙ sym (free-of-kind x w (child s) 6 (kind-read f.fields.ensures c.before.match.keys4)))
+    (and-settled (not (eqb x (variable w))) (child s (under w)) (ap not (eq-eqb x (variable w) (rw (read f) at c.if-x-variable-2.false)))
+    ∙ sym (free-of-kind x w (child s) 6 (kind-read f.fields-f.ensures c.before.in-6.keys4)))
 
 -- An and or an or.
-two : (c : tie.Then4) → let f = c.before.before.before.before in (4 ≤ kind f.before.args.w) × (kind f.before.args.w ≤ 5)
-two c = kind-two-read c.before.before.before.before.fields.ensures (omega arith) (omega arith)
+two : (c : tie.In-4) → let f = c.before.before.before.before in (4 ≤ kind f.before.args.w) × (kind f.before.args.w ≤ 5)
+two c = kind-two-read c.before.before.before.before.fields-f.ensures (omega arith) (omega arith)
 
-returns-7 : tie.Need-returns-7
+returns-7 : tie.Need-returns-then-before-left
 returns-7 c =
-    let d = c.before.before in let f = d.before.before.before.before in let s = f.before in let w = s.args.w in
+    let d = c.before.before in let f = d.before.before.before.before in let s = f.before in let w = s.before.args.w in
     rw (read f)
-    (or-settled (child s (left w)) (child s (right w)) (rw (read f) at c.if5.true)
-    ∙ sym (free-of-both s.args.x w (child s) (two d).0 (two d).1))
+    (or-settled (child s (left w)) (child s (right w)) (rw (read f) at c.if-before-left.true)
+    ∙ sym (free-of-both s.before.args.x w (child s) (two d).0 (two d).1))
 
-returns-8 : tie.Need-returns-8
+returns-8 : tie.Need-returns-else-before-left
 returns-8 c =
-    let d = c.before.before.before in let f = d.before.before.before.before in let s = f.before in let w = s.args.w in
+    let d = c.before.before.before in let f = d.before.before.before.before in let s = f.before in let w = s.before.args.w in
     rw (read f)
-    (or-left-to (child s (left w)) (child s (right w)) (rw (read f) at c.before.if5.false)
-    ∙ sym (free-of-both s.args.x w (child s) (two d).0 (two d).1))
+    (or-left-to (child s (left w)) (child s (right w)) (rw (read f) at c.before.if-before-left.false)
+    ∙ sym (free-of-both s.before.args.x w (child s) (two d).0 (two d).1))
 
-returns-9 : tie.Need-returns-9
+returns-9 : tie.Need-returns-in_default
 returns-9 c =
-    let f = c.before.before.before in let s = f.before in let r = c.before.match.rest in
-    sym (free-of-none s.args.x s.args.w (child s) (inl (omega (arith, ap (λ f. f.kind) (read f), c.if3.true, r.0.0.0.1, r.0.0.1, r.0.1))))
+    let f = c.before.before.before in let s = f.before in let r = c.before.in_default-1.rest in
+    sym (free-of-none s.args.x s.args.w (child s) (inl (omega (arith, ap (λ f. f.kind) (read f), c.if-kind-lt1.true, r.0.0.0.1, r.0.0.1, r.0.1))))
 
-returns-10 : tie.Need-returns-10
+returns-10 : tie.Need-returns-in_default-2
 returns-10 c =
     let f = c.before.before.before.before in let s = f.before in
-    sym (free-of-none s.args.x s.args.w (child s) (inr (omega (arith, ap (λ f. f.kind) (read f), c.if4.false, c.before.before.match.rest.1))))
+    sym (free-of-none s.args.x s.args.w (child s) (inr (omega (arith, ap (λ f. f.kind) (read f), c.if-kind-lt6.false, c.before.before.in_default-1.rest.1))))
 
-pub free-in-node-spec : {M : Type 1} → statement M
-free-in-node-spec =
+pub free_in_node_spec : {M : Type 1} → statement M
+free_in_node_spec =
     tie.close
     (tie.spec
     fields-requires

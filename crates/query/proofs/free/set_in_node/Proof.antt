@@ -20,116 +20,116 @@ abbrev child : tie.Start → ℕ → ℕ
 child c k = get_or c.args.before.now k 0
 
 -- The fields read are those of w.
-read : (c : tie.After-fields) → c.fields.result ≡ fields_of c.before.args.w
-read c = c.fields.ensures.reads
+read : (c : tie.After-fields-f) → c.fields.result ≡ fields_of c.before.args.w
+read c = c.fields-f.ensures.reads
 
-fields-requires : tie.Need-fields-requires
+fields-requires : tie.Need-fields-f-requires
 fields-requires c κs = search rules
 
-array-read-term-bit : tie.Need-array-read-term-bit
+array-read-term-bit : tie.Need-bounds-terms-0
 array-read-term-bit c = search rules
 
-term-bit-requires : tie.Need-term-bit-requires
+term-bit-requires : tie.Need-term_bit-requires
 term-bit-requires c κs = search rules
 
-array-read-term-bit-2 : tie.Need-array-read-term-bit-2
+array-read-term-bit-2 : tie.Need-bounds-terms-1
 array-read-term-bit-2 c = search rules
 
-term-bit-requires-2 : tie.Need-term-bit-requires-2
+term-bit-requires-2 : tie.Need-term_bit-requires-in-1
 term-bit-requires-2 c κs = search rules
 
-array-read-term-bit-3 : tie.Need-array-read-term-bit-3
+array-read-term-bit-3 : tie.Need-bounds-terms-2
 array-read-term-bit-3 c = search rules
 
-term-bit-requires-3 : tie.Need-term-bit-requires-3
+term-bit-requires-3 : tie.Need-term_bit-requires-in-1-2
 term-bit-requires-3 c κs = search rules
 
-array-read-term-bit-4 : tie.Need-array-read-term-bit-4
+array-read-term-bit-4 : tie.Need-bounds-terms-3
 array-read-term-bit-4 c = search rules
 
-term-bit-requires-4 : tie.Need-term-bit-requires-4
+term-bit-requires-4 : tie.Need-term_bit-requires-in-1-3
 term-bit-requires-4 c κs = search rules
 
-term-bit-requires-5 : tie.Need-term-bit-requires-5
+term-bit-requires-5 : tie.Need-term_bit-requires-in-2
 term-bit-requires-5 c κs = search rules
 
-term-bit-requires-6 : tie.Need-term-bit-requires-6
+term-bit-requires-6 : tie.Need-term_bit-requires-in-2-2
 term-bit-requires-6 c κs = search rules
 
-mul-result : tie.Need-overflow-mul-result
+mul-result : tie.Need-offset_bounds-before-left
 mul-result c = search rules
 
-element-copy-out-result : tie.Need-element-copy-out-result
+element-copy-out-result : tie.Need-bounds-before-left
 element-copy-out-result c = search rules
 
-term-bit-requires-7 : tie.Need-term-bit-requires-7
+term-bit-requires-7 : tie.Need-term_bit-bound-requires
 term-bit-requires-7 c κs = search rules
 
-mul-result-2 : tie.Need-overflow-mul-result-2
+mul-result-2 : tie.Need-offset_bounds-before-under
 mul-result-2 c = search rules
 
-element-copy-out-result-2 : tie.Need-element-copy-out-result-2
+element-copy-out-result-2 : tie.Need-bounds-before-under
 element-copy-out-result-2 c = search rules
 
-mul-result-3 : tie.Need-overflow-mul-result-3
+mul-result-3 : tie.Need-offset_bounds-before-left-in-4
 mul-result-3 c = search rules
 
-element-copy-out-result-3 : tie.Need-element-copy-out-result-3
+element-copy-out-result-3 : tie.Need-bounds-before-left-in-4
 element-copy-out-result-3 c = search rules
 
-mul-result-4 : tie.Need-overflow-mul-result-4
+mul-result-4 : tie.Need-offset_bounds-before-right
 mul-result-4 c = search rules
 
-element-copy-out-result-4 : tie.Need-element-copy-out-result-4
+element-copy-out-result-4 : tie.Need-bounds-before-right
 element-copy-out-result-4 c = search rules
 
-returns : tie.Need-returns
+returns : tie.Need-returns-in-1
 returns c =
     let f = c.before.before.before.before.before.before in let s = f.before in let w = s.args.w in
-    (λ i. bit_or (bit_or (bit_or (c.before.before.before.term_bit.ensures i) (c.before.before.term-bit2.ensures i)) (c.before.term-bit3.ensures i)) (c.term-bit4.ensures i))
+    (λ i. bit_or (bit_or (bit_or (c.before.before.before.term_bit.ensures i) (c.before.before.term_bit-in-1.ensures i)) (c.before.term_bit-in-1-2.ensures i)) (c.term_bit-in-1-3.ensures i))
     ∙ ap (λ g. term_bits g.count g.terms) (read f)
-    ∙ sym (set-of-record w (child s) (kind-read f.fields.ensures c.before.before.before.before.match.keys1))
+    ∙ sym (set-of-record w (child s) (kind-read f.fields-f.ensures c.before.before.before.before.in-1.keys1))
 
-returns-2 : tie.Need-returns-2
+returns-2 : tie.Need-returns-in-2
 returns-2 c =
     let f = c.before.before.before.before in let s = f.before in
-    (λ i. bit_or (c.before.term-bit5.ensures i) (c.term-bit6.ensures i))
+    (λ i. bit_or (c.before.term_bit-in-2.ensures i) (c.term_bit-in-2-2.ensures i))
     ∙ ap (λ g. bit_or (term_bit true g.variable) (term_bit true g.term)) (read f)
-    ∙ sym (set-of-equality s.args.w (child s) (kind-read f.fields.ensures c.before.before.match.keys2))
+    ∙ sym (set-of-equality s.args.w (child s) (kind-read f.fields-f.ensures c.before.before.in-2.keys2))
 
-returns-3 : tie.Need-returns-3
+returns-3 : tie.Need-returns-in-3
 returns-3 c =
     let f = c.before.before.before in let s = f.before in
-    rw (read f) (sym (set-of-not s.args.w (child s) (kind-read f.fields.ensures c.before.match.keys3)))
+    rw (read f) (sym (set-of-not s.before.args.w (child s) (kind-read f.before.fields-f.ensures c.before.before.in-3.keys3)))
 
-returns-4 : tie.Need-returns-4
+returns-4 : tie.Need-returns-in-6
 returns-4 c =
     let f = c.before.before.before.before in let s = f.before in
-    (λ i. bit_xor (bit_or (child s f.fields.result.under) (c.before.term-bit7.ensures i)) (c.before.term-bit7.ensures i))
+    (λ i. bit_xor (bit_or (child s f.before.fields-f.result.under) (c.before.before.term_bit-bound.ensures i)) (c.before.before.term_bit-bound.ensures i))
     ∙ ap (λ g. without g.variable (child s g.under)) (read f)
-    ∙ sym (set-of-exists s.args.w (child s) (kind-read f.fields.ensures c.before.before.match.keys4))
+    ∙ sym (set-of-exists s.before.args.w (child s) (kind-read f.before.fields-f.ensures c.before.before.before.in-6.keys4))
 
 -- An and or an or.
-two : (c : tie.Then2) → let f = c.before.before.before.before in (4 ≤ kind f.before.args.w) × (kind f.before.args.w ≤ 5)
-two c = kind-two-read c.before.before.before.before.fields.ensures (omega arith) (omega arith)
+two : (c : tie.In-4) → let f = c.before.before.before.before in (4 ≤ kind f.before.args.w) × (kind f.before.args.w ≤ 5)
+two c = kind-two-read c.before.before.before.before.fields-f.ensures (omega arith) (omega arith)
 
-returns-5 : tie.Need-returns-5
+returns-5 : tie.Need-returns-in-4
 returns-5 c =
     let d = c.before.before in let f = d.before.before.before.before in let s = f.before in
-    rw (read f) (sym (set-of-both s.args.w (child s) (two d).0 (two d).1))
+    rw (read f) (sym (set-of-both s.before.args.w (child s) (two d).0 (two d).1))
 
-returns-6 : tie.Need-returns-6
+returns-6 : tie.Need-returns-in_default
 returns-6 c =
-    let f = c.before.before.before in let s = f.before in let r = c.before.match.rest in
-    sym (set-of-none s.args.w (child s) (inl (omega (arith, ap (λ f. f.kind) (read f), c.if1.true, r.0.0.0.1, r.0.0.1, r.0.1))))
+    let f = c.before.before.before in let s = f.before in let r = c.before.in_default-1.rest in
+    sym (set-of-none s.args.w (child s) (inl (omega (arith, ap (λ f. f.kind) (read f), c.if-kind-lt1.true, r.0.0.0.1, r.0.0.1, r.0.1))))
 
-returns-7 : tie.Need-returns-7
+returns-7 : tie.Need-returns-in_default-2
 returns-7 c =
     let f = c.before.before.before.before in let s = f.before in
-    sym (set-of-none s.args.w (child s) (inr (omega (arith, ap (λ f. f.kind) (read f), c.if2.false, c.before.before.match.rest.1))))
+    sym (set-of-none s.args.w (child s) (inr (omega (arith, ap (λ f. f.kind) (read f), c.if-kind-lt6.false, c.before.before.in_default-1.rest.1))))
 
-pub set-in-node-spec : {M : Type 1} → statement M
-set-in-node-spec =
+pub set_in_node_spec : {M : Type 1} → statement M
+set_in_node_spec =
     tie.close
     (tie.spec
     fields-requires

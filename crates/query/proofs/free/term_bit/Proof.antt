@@ -7,19 +7,19 @@ use lib.Pow.{pow-lt}
 use Rattle.query.proofs.free.term_bit.Statement.{statement}
 use Rattle.query.proofs.free.term_bit.Tie as tie
 
-cast-result : tie.Need-overflow-cast-result
+cast-result : tie.Need-overflow_cast-result
 cast-result c = search rules
 
-shl-result : tie.Need-overflow-shl-result
+shl-result : tie.Need-overflow_shl-result
 shl-result c = search rules
 
-returns : tie.Need-returns
+returns : tie.Need-returns-then-t-lt16
 returns c =
     let t = c.before.before.args.t in
-    rw (c.before.if1.true, c.if2.true) (omega (arith, pow-lt {i = t} {j = 16} (ltb-true t 16 c.if2.true)))
+    rw (c.before.if-used.true, c.if-t-lt16.true) (omega (arith, pow-lt {i = t} {j = 16} (ltb-true t 16 c.if-t-lt16.true)))
 
-returns-2 : tie.Need-returns-2
-returns-2 c = ⊎_elim (λ w. rw (w.0.taken, w.1.left)) (λ w. rw w.left) c.if1.branch
+returns-2 : tie.Need-returns
+returns-2 c = ⊎_elim (λ w. rw (w.0.taken, w.1.left)) (λ w. rw w.left) c.else-used.branch
 
-pub term-bit-spec : {M : Type 1} → statement M
-term-bit-spec = tie.close (tie.spec cast-result shl-result returns returns-2)
+pub term_bit_spec : {M : Type 1} → statement M
+term_bit_spec = tie.close (tie.spec cast-result shl-result returns returns-2)

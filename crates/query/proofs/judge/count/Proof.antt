@@ -27,61 +27,61 @@ both counts mid now x y e f = f ∙ ap (λ (cs : List ℕ). set cs y (get_or cs 
 
 -- ---- what is known once the fields are read
 
-places : (c : tie.After-fields) → length c.before.before.before.args.counts.now ≡ max_nodes
+places : (c : tie.After-fields-f) → length c.before.before.before.args.counts.now ≡ max_nodes
 places c = search rules
 
 -- A node that is no not, no and, no or and no exists has no children.
-childless : (c : tie.At-match-rest) → c.before.fields.result.kind ≢ 4 → c.before.fields.result.kind ≢ 5 → children c.before.before.before.before.args.w ≡ []
-childless c a b = children-none-read c.before.fields.ensures c.match.rest.0.1 a b c.match.rest.1
+childless : (c : tie.In_default-1) → c.before.fields.result.kind ≢ 4 → c.before.fields.result.kind ≢ 5 → children c.before.before.before.before.args.w ≡ []
+childless c a b = children-none-read c.before.fields-f.ensures c.in_default-1.rest.0.1 a b c.in_default-1.rest.1
 
 -- ---- the needs
 
-fields-requires : tie.Need-fields-requires
+fields-requires : tie.Need-fields-f-requires
 fields-requires c κs = search rules
 
 bump-requires : tie.Need-bump-requires
 bump-requires c κs =
     let f = c.before.before in let s = f.before.before.before in
-    room s.args.counts.now f.fields.result.left f.fields.ensures.left_fits s.requires
+    room s.args.counts.now f.fields-f.result.left f.fields-f.ensures.left_fits s.requires
 
-bump-requires-2 : tie.Need-bump-requires-2
+bump-requires-2 : tie.Need-bump-requires-in-6
 bump-requires-2 c κs =
     let f = c.before.before in let s = f.before.before.before in
-    room s.args.counts.now f.fields.result.under f.fields.ensures.under_fits s.requires
+    room s.args.counts.now f.fields-f.result.under f.fields-f.ensures.under_fits s.requires
 
-bump-requires-3 : tie.Need-bump-requires-3
+bump-requires-3 : tie.Need-bump-requires-in-4
 bump-requires-3 c κs =
     let f = c.before.before.before.before in let s = f.before.before.before in
-    room s.args.counts.now f.fields.result.left f.fields.ensures.left_fits s.requires
+    room s.args.counts.now f.fields-f.result.left f.fields-f.ensures.left_fits s.requires
 
-bump-requires-4 : tie.Need-bump-requires-4
+bump-requires-4 : tie.Need-bump-requires-in-4-2
 bump-requires-4 c κs =
     let f = c.before.before.before.before.before.before in let s = f.before.before.before in
-    room-2 s.args.counts.now c.before.bump3.new.0 f.fields.result.left f.fields.result.right (places f) f.fields.ensures.left_fits f.fields.ensures.right_fits c.before.bump3.ensures s.requires
+    room-2 s.args.counts.now c.before.bump-in-4.new.0 f.fields-f.result.left f.fields-f.result.right (places f) f.fields-f.ensures.left_fits f.fields-f.ensures.right_fits c.before.bump-in-4.ensures s.requires
 
-returns : tie.Need-returns
+returns : tie.Need-returns-in-3
 returns c =
     let f = c.before.before.before in let s = f.before.before.before in
-    c.bump.ensures ∙ counted-one s.args.counts.now (places f) s.args.w f.fields.result.left f.fields.ensures.left_fits (children-not-read f.fields.ensures c.before.before.match.keys1)
+    c.bump.ensures ∙ counted-one s.args.counts.now (places f) s.args.w f.fields-f.result.left f.fields-f.ensures.left_fits (children-not-read f.fields-f.ensures c.before.before.in-3.keys1)
 
-returns-2 : tie.Need-returns-2
+returns-2 : tie.Need-returns-in-6
 returns-2 c =
     let f = c.before.before.before in let s = f.before.before.before in
-    c.bump2.ensures ∙ counted-one s.args.counts.now (places f) s.args.w f.fields.result.under f.fields.ensures.under_fits (children-exists-read f.fields.ensures c.before.before.match.keys2)
+    c.bump-in-6.ensures ∙ counted-one s.args.counts.now (places f) s.args.w f.fields-f.result.under f.fields-f.ensures.under_fits (children-exists-read f.fields-f.ensures c.before.before.in-6.keys2)
 
-returns-3 : tie.Need-returns-3
+returns-3 : tie.Need-returns-then-kind-lt3
 returns-3 c =
     let f = c.before.before in let s = f.before.before.before in
     counted_none s.args.counts.now (places f) s.args.w (childless c.before (λ e. omega arith) (λ e. omega arith))
 
-returns-4 : tie.Need-returns-4
+returns-4 : tie.Need-returns-in-4
 returns-4 c =
     let d = c.before.before.before.before in let f = d.before.before.before in let s = f.before.before.before in
-    both s.args.counts.now c.before.before.bump3.new.0 c.bump4.new.0 f.fields.result.left f.fields.result.right c.before.before.bump3.ensures c.bump4.ensures
-    ∙ counted-two s.args.counts.now (places f) s.args.w f.fields.result.left f.fields.result.right f.fields.ensures.left_fits f.fields.ensures.right_fits
-    (children-two-read f.fields.ensures (omega (arith, d)) (omega (arith, d)))
+    both s.args.counts.now c.before.before.bump-in-4.new.0 c.bump-in-4-2.new.0 f.fields-f.result.left f.fields-f.result.right c.before.before.bump-in-4.ensures c.bump-in-4-2.ensures
+    ∙ counted-two s.args.counts.now (places f) s.args.w f.fields-f.result.left f.fields-f.result.right f.fields-f.ensures.left_fits f.fields-f.ensures.right_fits
+    (children-two-read f.fields-f.ensures (omega (arith, d)) (omega (arith, d)))
 
-returns-5 : tie.Need-returns-5
+returns-5 : tie.Need-returns-else-kind-lt6
 returns-5 c =
     let f = c.before.before.before in let s = f.before.before.before in
     counted_none s.args.counts.now (places f) s.args.w (childless c.before.before (λ e. omega arith) (λ e. omega arith))

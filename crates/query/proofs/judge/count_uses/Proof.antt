@@ -14,10 +14,10 @@ use Rattle.query.specs.Reading.{max_nodes}
 use Rattle.query.proofs.judge.count_uses.Statement.{statement}
 use Rattle.query.proofs.judge.count_uses.Tie as tie
 
-abbrev invariant-loop : tie.invariant-loop
+abbrev invariant-loop : tie.invariant-loop-i
 invariant-loop nodes n all counts₀ i₀ counts i = (i ≤ n) × (counts ≡ tabulate (uses (take i nodes)) max_nodes)
 
-abbrev decreases-loop : tie.decreases-loop
+abbrev decreases-loop : tie.decreases-loop-i
 decreases-loop nodes n all counts₀ i₀ counts i = n - i
 
 fit : (ns counts : List ℕ) (i : ℕ) → i < max_nodes → length ns ≡ max_nodes → counts ≡ tabulate (uses (take i ns)) max_nodes → (c : ℕ) → c < max_nodes → get_or counts c 0 < 254
@@ -29,40 +29,40 @@ next ns counts after i h l e f = f ∙ ap (λ (cs : List ℕ). counted_with cs (
 last : (ns counts : List ℕ) (i n : ℕ) → i ≡ n → counts ≡ tabulate (uses (take i ns)) max_nodes → counts ≡ tabulate (uses (take n ns)) max_nodes
 last ns counts i n e f = f ∙ ap (λ (k : ℕ). tabulate (uses (take k ns)) max_nodes) e
 
-loop-holds : tie.Need-loop-init invariant-loop decreases-loop
+loop-holds : tie.Need-loop-i-init invariant-loop decreases-loop
 loop-holds c = (omega arith, refl)
 
-mul-count : tie.Need-overflow-mul-count invariant-loop decreases-loop
+mul-count : tie.Need-offset_bounds-all-i invariant-loop decreases-loop
 mul-count c = search rules
 
-shared-slice-read-count : tie.Need-shared-slice-read-count invariant-loop decreases-loop
+shared-slice-read-count : tie.Need-bounds-all-i invariant-loop decreases-loop
 shared-slice-read-count c = search rules
 
 count-requires : tie.Need-count-requires invariant-loop decreases-loop
 count-requires c κs =
-    let l = c.before.before.before.loop in let ns = c.before.before.before.before.before.args.nodes.now in
+    let l = c.before.before.before.loop-i in let ns = c.before.before.before.before.before.args.nodes.now in
     let e : length ns ≡ max_nodes = search rules in
     fit ns l.counts l.i (omega arith) e l.invariant.1
 
-add-i : tie.Need-overflow-add-i invariant-loop decreases-loop
+add-i : tie.Need-overflow_add-i invariant-loop decreases-loop
 add-i c = search rules
 
-loop-less : tie.Need-loop-smaller invariant-loop decreases-loop
+loop-less : tie.Need-loop-i-smaller invariant-loop decreases-loop
 loop-less c = search rules
 
-loop-again : tie.Need-loop-preserved invariant-loop decreases-loop
+loop-again : tie.Need-loop-i-preserved invariant-loop decreases-loop
 loop-again c =
-    let l = c.before.before.before.before.loop in let ns = c.before.before.before.before.before.before.args.nodes.now in
+    let l = c.before.before.before.before.loop-i in let ns = c.before.before.before.before.before.before.args.nodes.now in
     let e : length ns ≡ max_nodes = search rules in
     (omega arith, next ns l.counts c.count.new.0 l.i (omega arith) e l.invariant.1 c.count.ensures)
 
 returns : tie.Need-returns invariant-loop decreases-loop
 returns c =
-    let l = c.before.loop in let x = c.before.before.before.args in
+    let l = c.before.loop-i in let x = c.before.before.before.args in
     last x.nodes.now l.counts l.i x.n (omega arith) l.invariant.1
 
-pub count-uses-spec : {M : Type 1} → statement M
-count-uses-spec =
+pub count_uses_spec : {M : Type 1} → statement M
+count_uses_spec =
     tie.close
     (tie.spec
     invariant-loop

@@ -32,73 +32,73 @@ module _ (ns : List ℕ) (n i : ℕ) (h : i < n) (l : n ≤ length ns) where
 past-nine : (cause : ℕ) (a b c d : Bool) → 6 ≤ cause → cause ≢ 6 → cause ≢ 7 → cause ≢ 8 → cause ≢ 9 → false ≡ get_or (a ∷ b ∷ c ∷ d ∷ []) (cause - 6) false
 past-nine cause a b c d h n₆ n₇ n₈ n₉ = sym (get_or-eq_default (a ∷ b ∷ c ∷ d ∷ []) false {n = cause - 6} (omega arith))
 
-mul-w : tie.Need-overflow-mul-w
+mul-w : tie.Need-offset_bounds-all-i
 mul-w c = search rules
 
-shared-slice-read-w : tie.Need-shared-slice-read-w
+shared-slice-read-w : tie.Need-bounds-all-i
 shared-slice-read-w c = search rules
 
-is-malformed-requires : tie.Need-is-malformed-requires
+is-malformed-requires : tie.Need-is_malformed-requires
 is-malformed-requires c κs = search rules
 
 reaches-requires : tie.Need-reaches-requires
 reaches-requires c κs = search rules
 
-returns : tie.Need-returns
+returns : tie.Need-returns-then-reaches
 returns c =
     let x = c.before.before.before.before.before.args in let ns = x.nodes.now in
     let e : length ns ≡ max_nodes = search rules in
-    rw c.before.before.match.keys2 (reaching ns x.n x.i (omega arith) (omega arith) c.before.reaches.result c.before.reaches.ensures c.if1.true)
+    rw c.before.before.in-7.keys2 (reaching ns x.n x.i (omega arith) (omega arith) c.before.reaches.result c.before.reaches.ensures c.if-reaches.true)
 
-add-if2 : tie.Need-overflow-add-if2
+add-if2 : tie.Need-overflow_add-i
 add-if2 c = search rules
 
-returns-2 : tie.Need-returns-2
+returns-2 : tie.Need-returns-then-i-n
 returns-2 c =
     let x = c.before.before.before.before.before.before.args in let ns = x.nodes.now in
     let e : length ns ≡ max_nodes = search rules in
-    rw c.before.before.before.match.keys2 (last ns x.n x.i (omega arith) (omega arith) c.before.before.reaches.result c.before.before.reaches.ensures c.before.if1.false c.if2.true)
+    rw c.before.before.before.in-7.keys2 (last ns x.n x.i (omega arith) (omega arith) c.before.before.reaches.result c.before.before.reaches.ensures c.before.if-reaches.false c.if-i-n.true)
 
-element-copy-out-result : tie.Need-element-copy-out-result
+element-copy-out-result : tie.Need-bounds-counts-i
 element-copy-out-result c = search rules
 
-cast-has-stray : tie.Need-overflow-cast-has-stray
+cast-has-stray : tie.Need-overflow_cast-constants
 cast-has-stray c = search rules
 
-has-stray-requires : tie.Need-has-stray-requires
+has-stray-requires : tie.Need-has_stray-requires
 has-stray-requires c κs = search rules
 
-is-mismatched-requires : tie.Need-is-mismatched-requires
+is-mismatched-requires : tie.Need-is_mismatched-requires
 is-mismatched-requires c κs = search rules
 
-returns-3 : tie.Need-returns-3
+returns-3 : tie.Need-returns-in-6
 returns-3 c =
     let x = c.before.before.before.before.args in let h : x.i < x.n = omega arith in
-    rw (c.before.match.keys1, get_or-take x.n x.nodes.now x.i 0 h) c.is-malformed.ensures
+    rw (c.before.in-6.keys1, get_or-take x.n x.nodes.now x.i 0 h) c.is_malformed.ensures
 
-returns-4 : tie.Need-returns-4
+returns-4 : tie.Need-returns-else-i-n
 returns-4 c =
-    let x = c.before.before.before.before.before.before.before.args in let ns = x.nodes.now in
+    let x = c.before.before.before.before.before.before.before.before.args in let ns = x.nodes.now in
     let e : length ns ≡ max_nodes = search rules in
-    rw c.before.before.before.before.match.keys2 (other ns x.n x.i (omega arith) (omega arith) c.before.before.before.reaches.result c.before.before.before.reaches.ensures c.before.before.if1.false c.before.if2.false x.counts.now c.before.before.before.before.before.before.before.requires.1 (omega arith))
+    rw c.before.before.before.before.before.in-7.keys2 (other ns x.n x.i (omega arith) (omega arith) c.before.before.before.before.reaches.result c.before.before.before.before.reaches.ensures c.before.before.before.if-reaches.false c.before.before.if-i-n.false x.counts.now c.before.before.before.before.before.before.before.before.requires.1 (omega arith))
 
-returns-5 : tie.Need-returns-5
+returns-5 : tie.Need-returns-in-8
 returns-5 c =
     let x = c.before.before.before.before.args in let h : x.i < x.n = omega arith in
-    rw (c.before.match.keys3, get_or-take x.n x.nodes.now x.i 0 h) c.has-stray.ensures
+    rw (c.before.in-8.keys3, get_or-take x.n x.nodes.now x.i 0 h) c.has_stray.ensures
 
-returns-6 : tie.Need-returns-6
+returns-6 : tie.Need-returns-in-9
 returns-6 c =
     let x = c.before.before.before.before.args in let h : x.i < x.n = omega arith in
-    rw (c.before.match.keys4, get_or-take x.n x.nodes.now x.i 0 h) c.is-mismatched.ensures
+    rw (c.before.in-9.keys4, get_or-take x.n x.nodes.now x.i 0 h) c.is_mismatched.ensures
 
-returns-7 : tie.Need-returns-7
+returns-7 : tie.Need-returns-in_default
 returns-7 c =
-    let x = c.before.before.before.args in let ns = take x.n x.nodes.now in let r = c.match.rest in
+    let x = c.before.before.before.args in let ns = take x.n x.nodes.now in let r = c.in_default.rest in
     past-nine x.cause (malformed (get_or ns x.i 0)) (misplaced ns x.i) (strays x.constants (get_or ns x.i 0)) (mismatched x.widths.now (get_or ns x.i 0)) (omega arith) r.0.0.0.1 r.0.0.1 r.0.1 r.1
 
-pub has-fault-spec : {M : Type 1} → statement M
-has-fault-spec =
+pub has_fault_spec : {M : Type 1} → statement M
+has_fault_spec =
     tie.close
     (tie.spec
     mul-w

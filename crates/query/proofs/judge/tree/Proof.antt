@@ -21,95 +21,95 @@ nodes s = take s.args.n s.args.nodes.now
 abbrev finding : tie.Start → ℕ → Finding
 finding s cause = fault s.args.widths.now s.args.constants (nodes s) cause
 
-sized : (c : tie.After-count-uses) → length (nodes c.before.before) ≡ c.before.before.args.n
+sized : (c : tie.After-count_uses-counts) → length (nodes c.before.before) ≡ c.before.before.args.n
 sized c =
     let x = c.before.before.args in let e : length x.nodes.now ≡ max_nodes = search rules in
     length-take-le x.n x.nodes.now (omega arith)
 
-met-6 : (c : tie.Then1) → finding c.before.before.before.before.before 6 ≡ met c.before.lowest-fault.result
+met-6 : (c : tie.Then-malformed-n) → finding c.before.before.before.before.before 6 ≡ met c.before.lowest-fault.result
 met-6 c =
     let s = c.before.before.before.before.before in
-    fault-met s.args.widths.now s.args.constants (nodes s) 6 s.args.n c.before.lowest-fault.result (sized c.before.before.before) c.before.lowest-fault.ensures.1 c.if1.true
+    fault-met s.args.widths.now s.args.constants (nodes s) 6 s.args.n c.before.lowest_fault-malformed.result (sized c.before.before.before) c.before.lowest_fault-malformed.ensures.1 c.if-malformed-n.true
 
-clear-6 : (c : tie.Else1) → finding c.before.before.before.before.before 6 ≡ clear
+clear-6 : (c : tie.Else-malformed-n) → finding c.before.before.before.before.before 6 ≡ clear
 clear-6 c =
     let s = c.before.before.before.before.before in
-    fault-clear s.args.widths.now s.args.constants (nodes s) 6 s.args.n c.before.lowest-fault.result (sized c.before.before.before) c.before.lowest-fault.ensures.1 c.if1.false
+    fault-clear s.args.widths.now s.args.constants (nodes s) 6 s.args.n c.before.lowest_fault-malformed.result (sized c.before.before.before) c.before.lowest_fault-malformed.ensures.1 c.if-malformed-n.false
 
-met-7 : (c : tie.Then2) → finding c.before.before.before.before.before.before.before.before 7 ≡ met c.before.lowest-fault2.result
+met-7 : (c : tie.Then-misplaced-n) → finding c.before.before.before.before.before.before.before.before 7 ≡ met c.before.lowest-fault2.result
 met-7 c =
     let s = c.before.before.before.before.before.before.before.before in
-    fault-met s.args.widths.now s.args.constants (nodes s) 7 s.args.n c.before.lowest-fault2.result (sized c.before.before.before.before.before.before) c.before.lowest-fault2.ensures.1 c.if2.true
+    fault-met s.args.widths.now s.args.constants (nodes s) 7 s.args.n c.before.lowest_fault-misplaced.result (sized c.before.before.before.before.before.before) c.before.lowest_fault-misplaced.ensures.1 c.if-misplaced-n.true
 
-clear-7 : (c : tie.Else2) → finding c.before.before.before.before.before.before.before.before 7 ≡ clear
+clear-7 : (c : tie.Else-misplaced-n) → finding c.before.before.before.before.before.before.before.before 7 ≡ clear
 clear-7 c =
     let s = c.before.before.before.before.before.before.before.before in
-    fault-clear s.args.widths.now s.args.constants (nodes s) 7 s.args.n c.before.lowest-fault2.result (sized c.before.before.before.before.before.before) c.before.lowest-fault2.ensures.1 c.if2.false
+    fault-clear s.args.widths.now s.args.constants (nodes s) 7 s.args.n c.before.lowest_fault-misplaced.result (sized c.before.before.before.before.before.before) c.before.lowest_fault-misplaced.ensures.1 c.if-misplaced-n.false
 
-met-8 : (c : tie.Then3) → finding c.before.before.before.before.before.before.before.before.before.before.before 8 ≡ met c.before.lowest-fault3.result
+met-8 : (c : tie.Then-stray-n) → finding c.before.before.before.before.before.before.before.before.before.before.before 8 ≡ met c.before.lowest-fault3.result
 met-8 c =
     let s = c.before.before.before.before.before.before.before.before.before.before.before in
-    fault-met s.args.widths.now s.args.constants (nodes s) 8 s.args.n c.before.lowest-fault3.result (sized c.before.before.before.before.before.before.before.before.before) c.before.lowest-fault3.ensures.1 c.if3.true
+    fault-met s.args.widths.now s.args.constants (nodes s) 8 s.args.n c.before.lowest_fault-stray.result (sized c.before.before.before.before.before.before.before.before.before) c.before.lowest_fault-stray.ensures.1 c.if-stray-n.true
 
-clear-8 : (c : tie.Else3) → finding c.before.before.before.before.before.before.before.before.before.before.before 8 ≡ clear
+clear-8 : (c : tie.Else-stray-n) → finding c.before.before.before.before.before.before.before.before.before.before.before 8 ≡ clear
 clear-8 c =
     let s = c.before.before.before.before.before.before.before.before.before.before.before in
-    fault-clear s.args.widths.now s.args.constants (nodes s) 8 s.args.n c.before.lowest-fault3.result (sized c.before.before.before.before.before.before.before.before.before) c.before.lowest-fault3.ensures.1 c.if3.false
+    fault-clear s.args.widths.now s.args.constants (nodes s) 8 s.args.n c.before.lowest_fault-stray.result (sized c.before.before.before.before.before.before.before.before.before) c.before.lowest_fault-stray.ensures.1 c.if-stray-n.false
 
-met-9 : (c : tie.Then4) → finding c.before.before.before.before.before.before.before.before.before.before.before.before.before.before 9 ≡ met c.before.lowest-fault4.result
+met-9 : (c : tie.Then-mismatched-n) → finding c.before.before.before.before.before.before.before.before.before.before.before.before.before.before 9 ≡ met c.before.lowest-fault4.result
 met-9 c =
     let s = c.before.before.before.before.before.before.before.before.before.before.before.before.before.before in
-    fault-met s.args.widths.now s.args.constants (nodes s) 9 s.args.n c.before.lowest-fault4.result (sized c.before.before.before.before.before.before.before.before.before.before.before.before) c.before.lowest-fault4.ensures.1 c.if4.true
+    fault-met s.args.widths.now s.args.constants (nodes s) 9 s.args.n c.before.lowest_fault-mismatched.result (sized c.before.before.before.before.before.before.before.before.before.before.before.before) c.before.lowest_fault-mismatched.ensures.1 c.if-mismatched-n.true
 
-clear-9 : (c : tie.Else4) → finding c.before.before.before.before.before.before.before.before.before.before.before.before.before.before 9 ≡ clear
+clear-9 : (c : tie.Else-mismatched-n) → finding c.before.before.before.before.before.before.before.before.before.before.before.before.before.before 9 ≡ clear
 clear-9 c =
     let s = c.before.before.before.before.before.before.before.before.before.before.before.before.before.before in
-    fault-clear s.args.widths.now s.args.constants (nodes s) 9 s.args.n c.before.lowest-fault4.result (sized c.before.before.before.before.before.before.before.before.before.before.before.before) c.before.lowest-fault4.ensures.1 c.if4.false
+    fault-clear s.args.widths.now s.args.constants (nodes s) 9 s.args.n c.before.lowest_fault-mismatched.result (sized c.before.before.before.before.before.before.before.before.before.before.before.before) c.before.lowest_fault-mismatched.ensures.1 c.if-mismatched-n.false
 
 -- ---- the needs
 
-count-uses-requires : tie.Need-count-uses-requires
+count-uses-requires : tie.Need-count_uses-counts-requires
 count-uses-requires c κs = search rules
 
-lowest-fault-requires : tie.Need-lowest-fault-requires
+lowest-fault-requires : tie.Need-lowest_fault-malformed-requires
 lowest-fault-requires c κs = search rules
 
-returns : tie.Need-returns
+returns : tie.Need-returns-then-malformed-n
 returns c =
     let s = c.before.before.before.before.before in
-    tree-6 s.args.widths.now s.args.constants (nodes s) c.before.lowest-fault.result (met-6 c)
+    tree-6 s.args.widths.now s.args.constants (nodes s) c.before.lowest_fault-malformed.result (met-6 c)
 
-lowest-fault-requires-2 : tie.Need-lowest-fault-requires-2
+lowest-fault-requires-2 : tie.Need-lowest_fault-misplaced-requires
 lowest-fault-requires-2 c κs = search rules
 
-returns-2 : tie.Need-returns-2
+returns-2 : tie.Need-returns-then-misplaced-n
 returns-2 c =
     let s = c.before.before.before.before.before.before.before.before in
-    tree-7 s.args.widths.now s.args.constants (nodes s) c.before.lowest-fault2.result (clear-6 c.before.before.before) (met-7 c)
+    tree-7 s.args.widths.now s.args.constants (nodes s) c.before.lowest_fault-misplaced.result (clear-6 c.before.before.before) (met-7 c)
 
-lowest-fault-requires-3 : tie.Need-lowest-fault-requires-3
+lowest-fault-requires-3 : tie.Need-lowest_fault-stray-requires
 lowest-fault-requires-3 c κs = search rules
 
-returns-3 : tie.Need-returns-3
+returns-3 : tie.Need-returns-then-stray-n
 returns-3 c =
     let s = c.before.before.before.before.before.before.before.before.before.before.before in
-    tree-8 s.args.widths.now s.args.constants (nodes s) c.before.lowest-fault3.result (clear-6 c.before.before.before.before.before.before) (clear-7 c.before.before.before) (met-8 c)
+    tree-8 s.args.widths.now s.args.constants (nodes s) c.before.lowest_fault-stray.result (clear-6 c.before.before.before.before.before.before) (clear-7 c.before.before.before) (met-8 c)
 
-lowest-fault-requires-4 : tie.Need-lowest-fault-requires-4
+lowest-fault-requires-4 : tie.Need-lowest_fault-mismatched-requires
 lowest-fault-requires-4 c κs = search rules
 
-returns-4 : tie.Need-returns-4
+returns-4 : tie.Need-returns-then-mismatched-n
 returns-4 c =
     let s = c.before.before.before.before.before.before.before.before.before.before.before.before.before.before in
-    tree-9 s.args.widths.now s.args.constants (nodes s) c.before.lowest-fault4.result (clear-6 c.before.before.before.before.before.before.before.before.before) (clear-7 c.before.before.before.before.before.before) (clear-8 c.before.before.before) (met-9 c)
+    tree-9 s.args.widths.now s.args.constants (nodes s) c.before.lowest_fault-mismatched.result (clear-6 c.before.before.before.before.before.before.before.before.before) (clear-7 c.before.before.before.before.before.before) (clear-8 c.before.before.before) (met-9 c)
 
-returns-5 : tie.Need-returns-5
+returns-5 : tie.Need-returns
 returns-5 c =
     let s = c.before.before.before.before.before.before.before.before.before.before.before.before.before.before in
     tree-done s.args.widths.now s.args.constants (nodes s) (clear-6 c.before.before.before.before.before.before.before.before.before) (clear-7 c.before.before.before.before.before.before) (clear-8 c.before.before.before) (clear-9 c)
 
-pub tree-spec : {M : Type 1} → statement M
-tree-spec =
+pub tree_spec : {M : Type 1} → statement M
+tree_spec =
     tie.close
     (tie.spec
     count-uses-requires

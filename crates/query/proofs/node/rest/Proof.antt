@@ -5,26 +5,26 @@ use Rattle.query.specs.Code.Fields.Laws.{rest-two, rest-none}
 use Rattle.query.proofs.node.rest.Statement.{statement}
 use Rattle.query.proofs.node.rest.Tie as tie
 
-returns : tie.Need-returns
-returns c = rw c.match.keys1
+returns : tie.Need-returns-in-0
+returns c = rw c.in-0.keys1
 
-returns-2 : tie.Need-returns-2
-returns-2 c = rw c.match.keys2
+returns-2 : tie.Need-returns-in-1
+returns-2 c = rw c.in-1.keys2
 
-returns-3 : tie.Need-returns-3
-returns-3 c = rw c.match.keys3
+returns-3 : tie.Need-returns-in-2
+returns-3 c = rw c.in-2.keys3
 
-returns-4 : tie.Need-returns-4
-returns-4 c = rw c.match.keys4
+returns-4 : tie.Need-returns-in-3
+returns-4 c = rw c.in-3.keys4
 
-returns-5 : tie.Need-returns-5
-returns-5 c = rw c.match.keys5
+returns-5 : tie.Need-returns-in-6
+returns-5 c = rw c.in-6.keys5
 
-returns-6 : tie.Need-returns-6
-returns-6 c = sym (rest-two c.before.before.args.w (omega (arith, c.before.match.rest)) (omega arith))
+returns-6 : tie.Need-returns-in-4
+returns-6 c = sym (rest-two c.before.before.args.w (omega (arith, c.before.in_default-1.rest)) (omega arith))
 
-returns-7 : tie.Need-returns-7
-returns-7 c = sym (rest-none c.before.before.args.w c.if1.false c.before.match.rest.1)
+returns-7 : tie.Need-returns-in_default
+returns-7 c = sym (rest-none c.before.before.args.w c.if-kind-lt6.false c.before.in_default-1.rest.1)
 
-pub rest-spec : {M : Type 1} → statement M
-rest-spec = tie.close (tie.spec returns returns-2 returns-3 returns-4 returns-5 returns-6 returns-7)
+pub rest_spec : {M : Type 1} → statement M
+rest_spec = tie.close (tie.spec returns returns-2 returns-3 returns-4 returns-5 returns-6 returns-7)

@@ -15,46 +15,46 @@ use Rattle.query.proofs.node.some_of.Tie as tie
 four : (n : ℕ) → n ≢ 0 → n ≢ 1 → n ≢ 2 → n ≢ 3 → 4 ≤ n
 four n a b c d = omega arith
 
-returns : tie.Need-returns
+returns : tie.Need-returns-then-count-eq0
 returns c = search rules
 
-returns-2 : tie.Need-returns-2
+returns-2 : tie.Need-returns-then-a
 returns-2 c =
     let x = c.before.before.args in
-    sym (any-take-at itself false (x.a ∷ x.b ∷ x.c ∷ x.d ∷ []) x.count 0 (omega arith) (omega arith) c.if2.true)
+    sym (any-take-at itself false (x.a ∷ x.b ∷ x.c ∷ x.d ∷ []) x.count 0 (omega arith) (omega arith) c.if-a.true)
 
-returns-3 : tie.Need-returns-3
-returns-3 c = rw (c.if3.true, c.before.if2.false)
+returns-3 : tie.Need-returns-then-count-eq1
+returns-3 c = rw (c.if-count-eq1.true, c.before.if-a.false)
 
-returns-4 : tie.Need-returns-4
+returns-4 : tie.Need-returns-then-b
 returns-4 c =
     let x = c.before.before.before.before.args in
-    sym (any-take-at itself false (x.a ∷ x.b ∷ x.c ∷ x.d ∷ []) x.count 1 (omega arith) (omega arith) c.if4.true)
+    sym (any-take-at itself false (x.a ∷ x.b ∷ x.c ∷ x.d ∷ []) x.count 1 (omega arith) (omega arith) c.if-b.true)
 
-returns-5 : tie.Need-returns-5
-returns-5 c = rw (c.if5.true, c.before.if4.false, c.before.before.before.if2.false)
+returns-5 : tie.Need-returns-then-count-eq2
+returns-5 c = rw (c.if-count-eq2.true, c.before.if-b.false, c.before.before.before.if-a.false)
 
-returns-6 : tie.Need-returns-6
+returns-6 : tie.Need-returns-then-c
 returns-6 c =
     let x = c.before.before.before.before.before.before.args in
-    sym (any-take-at itself false (x.a ∷ x.b ∷ x.c ∷ x.d ∷ []) x.count 2 (omega arith) (omega arith) c.if6.true)
+    sym (any-take-at itself false (x.a ∷ x.b ∷ x.c ∷ x.d ∷ []) x.count 2 (omega arith) (omega arith) c.if-c.true)
 
-returns-7 : tie.Need-returns-7
-returns-7 c = rw (c.if7.true, c.before.if6.false, c.before.before.before.if4.false, c.before.before.before.before.before.if2.false)
+returns-7 : tie.Need-returns-then-count-eq3
+returns-7 c = rw (c.if-count-eq3.true, c.before.if-c.false, c.before.before.before.if-b.false, c.before.before.before.before.before.if-a.false)
 
-returns-8 : tie.Need-returns-8
+returns-8 : tie.Need-returns
 returns-8 c =
     let b = c.before.before.before.before.before.before in
     let x = b.before.args in
     rw (
-      take_all x.count (x.a ∷ x.b ∷ x.c ∷ x.d ∷ []) (four x.count b.if1.false c.before.before.before.before.if3.false c.before.before.if5.false c.if7.false),
-      c.before.if6.false,
-      c.before.before.before.if4.false,
-      c.before.before.before.before.before.if2.false,
+      take_all x.count (x.a ∷ x.b ∷ x.c ∷ x.d ∷ []) (four x.count b.if-count-eq0.false c.before.before.before.before.if-count-eq1.false c.before.before.if-count-eq2.false c.if-count-eq3.false),
+      c.before.if-c.false,
+      c.before.before.before.if-b.false,
+      c.before.before.before.before.before.if-a.false,
       or-false,
     )
 
-pub some-of-spec : {M : Type 1} → statement M
-some-of-spec =
+pub some_of_spec : {M : Type 1} → statement M
+some_of_spec =
     tie.close
     (tie.spec returns returns-2 returns-3 returns-4 returns-5 returns-6 returns-7 returns-8)

@@ -14,56 +14,56 @@ use Rattle.query.proofs.unpack.words.Tie as tie
 abbrev read_up : List ℕ → ℕ → ℕ → List ℕ → List ℕ
 read_up bytes from i out₀ = tabulate (λ j. word_at bytes (from + 4 * j)) i ++ drop i out₀
 
-abbrev invariant-loop : tie.invariant-loop
+abbrev invariant-loop : tie.invariant-loop-i
 invariant-loop bytes from n out₀ i₀ out i = (i ≤ n) × (length out ≡ length out₀) × (out ≡ read_up bytes from i out₀)
 
-abbrev decreases-loop : tie.decreases-loop
+abbrev decreases-loop : tie.decreases-loop-i
 decreases-loop bytes from n out₀ i₀ out i = n - i
 
 -- One word more.
 next : (bytes : List ℕ) (from i : ℕ) (out out₀ : List ℕ) (w : ℕ) → i + 1 ≤ length out₀ → out ≡ read_up bytes from i out₀ → w ≡ word_at bytes (from + 4 * i) → set out i w ≡ read_up bytes from (i + 1) out₀
 next bytes from i out out₀ w h e f = rw (e, f) (tabulate-fill (λ j. word_at bytes (from + 4 * j)) out₀ i 0 (omega arith))
 
-loop-holds : tie.Need-loop-init invariant-loop decreases-loop
+loop-holds : tie.Need-loop-i-init invariant-loop decreases-loop
 loop-holds c = (omega arith, refl, refl)
 
-mul-word : tie.Need-overflow-mul-word invariant-loop decreases-loop
+mul-word : tie.Need-overflow_mul-i invariant-loop decreases-loop
 mul-word c = search rules
 
-add_word : tie.Need-overflow-add-word invariant-loop decreases-loop
+add_word : tie.Need-overflow_add-from invariant-loop decreases-loop
 add_word c = search rules
 
 word-requires : tie.Need-word-requires invariant-loop decreases-loop
 word-requires c κs = search rules
 
-mul-out : tie.Need-overflow-mul-out invariant-loop decreases-loop
+mul-out : tie.Need-offset_bounds-out-i invariant-loop decreases-loop
 mul-out c = search rules
 
-slice-write-out : tie.Need-slice-write-out invariant-loop decreases-loop
+slice-write-out : tie.Need-bounds-out-i invariant-loop decreases-loop
 slice-write-out c = search rules
 
-add-i : tie.Need-overflow-add-i invariant-loop decreases-loop
+add-i : tie.Need-overflow_add-i invariant-loop decreases-loop
 add-i c = search rules
 
-loop-less : tie.Need-loop-smaller invariant-loop decreases-loop
+loop-less : tie.Need-loop-i-smaller invariant-loop decreases-loop
 loop-less c = search rules
 
-loop-again : tie.Need-loop-preserved invariant-loop decreases-loop
+loop-again : tie.Need-loop-i-preserved invariant-loop decreases-loop
 loop-again c =
-    let l = c.before.before.loop in let x = c.before.before.before.before.before.args in
+    let l = c.before.before.loop-i in let x = c.before.before.before.before.before.args in
     (omega arith, simp length-set l.invariant.1, next x.bytes.now x.from l.i l.out x.out.now c.word.result (omega arith) l.invariant.2 c.word.ensures)
 
-same_length : tie.Need-same-length invariant-loop decreases-loop
+same_length : tie.Need-shape_of-out invariant-loop decreases-loop
 same_length c = search rules
 
 returns : tie.Need-returns invariant-loop decreases-loop
 returns c =
-    let l = c.before.loop in let x = c.before.before.before.before.args in
+    let l = c.before.loop-i in let x = c.before.before.before.before.args in
     let e : l.i ≡ x.n = omega arith in
     l.invariant.2 ∙ ap (λ (k : ℕ). read_up x.bytes.now x.from k x.out.now) e
 
-pub words-spec : {M : Type 1} → statement M
-words-spec =
+pub words_spec : {M : Type 1} → statement M
+words_spec =
     tie.close
     (tie.spec
     invariant-loop

@@ -59,61 +59,61 @@ abbrev digits-claims : ℕ → digits-lts.Claims
 digits-claims t = (digits-below t, digits'.Post)
 
 -- After the branch: the digits but the last are written.
-module _ (t : ℕ) (c : digits-lts.Joined2 (digits-claims t) (digits-at t) digits'.Post) where
+module _ (t : ℕ) (c : digits-lts.Joined-n-ge10 (digits-claims t) (digits-at t) digits'.Post) where
   abbrev start : digits-lts.Start (digits-claims t) (digits-at t) digits'.Post
-  start = c.before.before.before
+  start = c
 
-  written : (c.if2.end, c.if2.out) ≡ wrote start.args.at (front start.args.k start.args.n) start.args.out.now
+  written : (c.if-n-ge10.end, c.if-n-ge10.out) ≡ wrote start.args.at (front start.args.k start.args.n) start.args.out.now
   written =
       let a = start.args in
       ⊎_elim
       (λ w. (λ i. (w.6 i, w.5 i)) ∙ w.2.ensures ∙ ap (λ d. wrote a.at d a.out.now) (sym (front-some a.k a.n w.0.taken)))
       (λ w. (λ i. (w.2 i, w.1 i)) ∙ wrote_none a.at a.out.now ∙ ap (λ d. wrote a.at d a.out.now) (sym (front-none a.k a.n (omega (arith, w.0.left)))))
-      c.if2.branch
+      c.if-n-ge10.branch
 
-  kept : length c.if2.out ≡ length start.args.out.now
-  kept = let a = start.args in wrote-length a.at c.if2.end (front a.k a.n) a.out.now c.if2.out written
+  kept : length c.if-n-ge10.out ≡ length start.args.out.now
+  kept = let a = start.args in wrote-length a.at c.if-n-ge10.end (front a.k a.n) a.out.now c.if-n-ge10.out written
 
   -- There is a place for the last one.
-  ends : c.if2.end + 1 ≤ start.args.at + start.args.k
+  ends : c.if-n-ge10.end + 1 ≤ start.args.at + start.args.k
   ends =
       let a = start.args in
-      omega (arith, wrote-end a.at c.if2.end (front a.k a.n) a.out.now c.if2.out written, length_front a.k a.n c.before.if1.false)
+      omega (arith, wrote-end a.at c.if-n-ge10.end (front a.k a.n) a.out.now c.if-n-ge10.out written, length_front a.k a.n c.before.if-k-eq0.false)
 
-digits-returns : (t : ℕ) → digits-lts.Need-returns (digits-claims t) (digits-at t) digits'.Post
+digits-returns : (t : ℕ) → digits-lts.Need-returns-then-k-eq0 (digits-claims t) (digits-at t) digits'.Post
 digits-returns t c =
     let a = c.before.before.args in
-    wrote_none a.at a.out.now ∙ ap (λ j. wrote a.at (digits j a.n) a.out.now) (sym c.if1.true)
+    wrote_none a.at a.out.now ∙ ap (λ j. wrote a.at (digits j a.n) a.out.now) (sym c.if-k-eq0.true)
 
-digits-sub-digits : (t : ℕ) → digits-lts.Need-overflow-sub-digits (digits-claims t) (digits-at t) digits'.Post
+digits-sub-digits : (t : ℕ) → digits-lts.Need-overflow_sub-k (digits-claims t) (digits-at t) digits'.Post
 digits-sub-digits t c = search rules
 
-digits-digits-requires : (t : ℕ) → digits-lts.Need-digits-requires (digits-claims t) (digits-at t) digits'.Post
+digits-digits-requires : (t : ℕ) → digits-lts.Need-digits-end-requires (digits-claims t) (digits-at t) digits'.Post
 digits-digits-requires t c κs = search rules
 
-digits-cast-out : (t : ℕ) → digits-lts.Need-overflow-cast-out (digits-claims t) (digits-at t) digits'.Post
+digits-cast-out : (t : ℕ) → digits-lts.Need-overflow_cast-out (digits-claims t) (digits-at t) digits'.Post
 digits-cast-out t c = search rules
 
-digits-add-out : (t : ℕ) → digits-lts.Need-overflow-add-out (digits-claims t) (digits-at t) digits'.Post
+digits-add-out : (t : ℕ) → digits-lts.Need-overflow_add-out (digits-claims t) (digits-at t) digits'.Post
 digits-add-out t c = search rules
 
-digits-slice-write-out : (t : ℕ) → digits-lts.Need-slice-write-out (digits-claims t) (digits-at t) digits'.Post
+digits-slice-write-out : (t : ℕ) → digits-lts.Need-bounds-out-end (digits-claims t) (digits-at t) digits'.Post
 digits-slice-write-out t c = let s = start t c in omega (arith, ends t c, kept t c, s.pre.1)
 
-digits-add-result : (t : ℕ) → digits-lts.Need-overflow-add-result (digits-claims t) (digits-at t) digits'.Post
+digits-add-result : (t : ℕ) → digits-lts.Need-overflow_add-result (digits-claims t) (digits-at t) digits'.Post
 digits-add-result t c = let s = start t c.before in record { fits = omega (arith, ends t c.before, s.pre.1) }
 
-digits-same-length : (t : ℕ) → digits-lts.Need-same-length (digits-claims t) (digits-at t) digits'.Post
+digits-same-length : (t : ℕ) → digits-lts.Need-shape_of-out (digits-claims t) (digits-at t) digits'.Post
 digits-same-length t c = simp length-set (kept t c.before)
 
-digits-returns-2 : (t : ℕ) → digits-lts.Need-returns-2 (digits-claims t) (digits-at t) digits'.Post
+digits-returns-2 : (t : ℕ) → digits-lts.Need-returns (digits-claims t) (digits-at t) digits'.Post
 digits-returns-2 t c =
     let d = c.before in let a = (start t d).args in
-    wrote-byte a.at d.if2.end (front a.k a.n) a.out.now d.if2.out (48 + a.n % 10) (written t d)
-    ∙ ap (λ r. wrote a.at r a.out.now) (sym (digits-front a.k a.n d.before.if1.false))
+    wrote-byte a.at d.if-n-ge10.end (front a.k a.n) a.out.now d.if-n-ge10.out (48 + a.n % 10) (written t d)
+    ∙ ap (λ r. wrote a.at r a.out.now) (sym (digits-front a.k a.n d.before.if-k-eq0.false))
 
-pub +digits-spec : {M : Type 1} → statement M
-+digits-spec = close μ-digits λ t. digits-lts.spec (digits-claims t)
+pub +digits_spec : {M : Type 1} → statement M
++digits_spec = close μ-digits λ t. digits-lts.spec (digits-claims t)
     (digits-at t)
     digits'.Post
     (digits-returns t)

@@ -60,77 +60,77 @@ still-long : (c : tie.After-words) → length (written c) ≡ length (start c).a
 still-long c = let a = (start c).args in ap length (pool-written c) ∙ length-overlay a.at (with-pool a.q) a.out.now
 
 -- The nodes are written.
-abbrev constants : tie.After-words2 → tie.After-words
+abbrev constants : tie.After-words-2 → tie.After-words
 constants c = c.before.before.before.before.before
 
-query-written : (c : tie.After-words2) → let a = (start (constants c)).args in c.words2.new.1.1.0 ≡ overlay a.at (bytes_of a.q) a.out.now
+query-written : (c : tie.After-words-2) → let a = (start (constants c)).args in c.words-2.new.1.1.0 ≡ overlay a.at (bytes_of a.q) a.out.now
 query-written c =
     let w = constants c in let s = start w in let a = s.args in let q = a.q in let k = q.constant_count in let n = q.node_count in
     let hk : k ≤ length q.constants = omega (arith, constants-long s) in
     let hn : n ≤ length q.nodes = omega (arith, nodes-long s) in
     let l : a.at + length (with-pool q) ≡ a.at + 2 + 4 * k = omega (arith, length-word-bytes q.constants k hk) in
-    c.words2.ensures
+    c.words-2.ensures
     ∙ then-run a.at (with-pool q) (union_of word_bytes (nodes_in q)) a.out.now (written w) (a.at + 2 + 4 * k) (pool-written w) l
     ∙ ap (λ bs. overlay a.at bs a.out.now) (all-parts q hn hk)
 
 -- ---- the needs
 
-add-out : tie.Need-overflow-add-out
+add-out : tie.Need-overflow_add-out
 add-out c = search rules
 
-cast-out : tie.Need-overflow-cast-out
+cast-out : tie.Need-overflow_cast-out
 cast-out c = search rules
 
-slice-write-out : tie.Need-slice-write-out
+slice-write-out : tie.Need-bounds-out-at
 slice-write-out c = search rules
 
-mul-out : tie.Need-overflow-mul-out
+mul-out : tie.Need-overflow_mul-out
 mul-out c = search rules
 
-add-out-2 : tie.Need-overflow-add-out-2
+add-out-2 : tie.Need-overflow_add-out-2
 add-out-2 c = search rules
 
-cast-out-2 : tie.Need-overflow-cast-out-2
+cast-out-2 : tie.Need-overflow_cast-out-2
 cast-out-2 c = search rules
 
-add-out-3 : tie.Need-overflow-add-out-3
+add-out-3 : tie.Need-overflow_add-out-3
 add-out-3 c = search rules
 
-slice-write-out-2 : tie.Need-slice-write-out-2
+slice-write-out-2 : tie.Need-bounds-out-at-2
 slice-write-out-2 c = simp length-set (omega arith)
 
-slice-aggregate-words : tie.Need-slice-aggregate-words
+slice-aggregate-words : tie.Need-slice_bounds-words-end
 slice-aggregate-words c = search rules
 
-add_words : tie.Need-overflow-add-words
+add_words : tie.Need-overflow_add-at
 add_words c = search rules
 
 words-requires : tie.Need-words-requires
 words-requires c κs = let s = c.before.before.before.before.before in (omega (arith, constants-long s), simp length-set (omega arith))
 
-slice-aggregate-words-2 : tie.Need-slice-aggregate-words-2
+slice-aggregate-words-2 : tie.Need-slice_bounds-words-end-2
 slice-aggregate-words-2 c = search rules
 
-add-words-2 : tie.Need-overflow-add-words-2
+add-words-2 : tie.Need-overflow_add-at-2
 add-words-2 c = search rules
 
-mul_words : tie.Need-overflow-mul-words
+mul_words : tie.Need-overflow_mul-k
 mul_words c = search rules
 
-add-words-3 : tie.Need-overflow-add-words-3
+add-words-3 : tie.Need-overflow_add-at-3
 add-words-3 c = search rules
 
 words-requires-2 : tie.Need-words-requires-2
 words-requires-2 c κs = let w = c.before.before.before.before in (omega (arith, nodes-long (start w)), omega (arith, still-long w))
 
-same_length : tie.Need-same-length
+same_length : tie.Need-shape_of-out
 same_length c = let w = c.before.before in let a = (start (constants w)).args in ap length (query-written w) ∙ length-overlay a.at (bytes_of a.q) a.out.now
 
 returns : tie.Need-returns
 returns c = query-written c.before.before
 
-pub query-spec : {M : Type 1} → statement M
-query-spec =
+pub query_spec : {M : Type 1} → statement M
+query_spec =
     tie.close
     (tie.spec
     add-out

@@ -19,58 +19,58 @@ placed b x p cs r h e f = rw (lt-leb past x h) (subst (λ q. r ≡ put_place b x
 
 -- ---- the needs
 
-returns : tie.Need-returns
-returns c = rw (le-leb past c.before.args.x c.if1.true)
+returns : tie.Need-returns-then-x-ge-PAST
+returns c = rw (le-leb past c.before.args.x c.if-x-ge-PAST.true)
 
-cast-place : tie.Need-overflow-cast-place
+cast-place : tie.Need-overflow_cast-x
 cast-place c = search rules
 
-place-requires : tie.Need-place-requires
+place-requires : tie.Need-place-p-requires
 place-requires c κs = search rules
 
-returns-2 : tie.Need-returns-2
+returns-2 : tie.Need-returns-then-p-ge-CONSTANTS
 returns-2 c =
-    let p = c.before in let a = p.before.before.before.args in
-    placed a.b a.x p.place.result a.constants.now (overrun a.b, a.constants.now) p.before.before.if1.false p.place.ensures (rw (le-leb 16 p.place.result c.if2.true))
+    let p = c.before in let a = p.before.before.args in
+    placed a.b a.x p.place-p.result a.constants.now (overrun a.b, a.constants.now) p.before.if-x-ge-PAST.false p.place-p.ensures (rw (le-leb 16 p.place-p.result c.if-p-ge-CONSTANTS.true))
 
-cast-e : tie.Need-overflow-cast-e
+cast-e : tie.Need-overflow_cast-e
 cast-e c = search rules
 
-add-e : tie.Need-overflow-add-e
+add-e : tie.Need-overflow_add-e
 add-e c = search rules
 
-mul-e : tie.Need-overflow-mul-e
+mul-e : tie.Need-offset_bounds-e-n
 mul-e c = search rules
 
-element-write-e : tie.Need-element-write-e
+element-write-e : tie.Need-bounds-e-n
 element-write-e c = search rules
 
-add-e-2 : tie.Need-overflow-add-e-2
+add-e-2 : tie.Need-overflow_add-e-2
 add-e-2 c = search rules
 
-cast-constants : tie.Need-overflow-cast-constants
+cast-constants : tie.Need-overflow_cast-constants
 cast-constants c = search rules
 
-mul-constants : tie.Need-overflow-mul-constants
+mul-constants : tie.Need-offset_bounds-constants-p
 mul-constants c = search rules
 
-element-write-constants : tie.Need-element-write-constants
+element-write-constants : tie.Need-bounds-constants-p
 element-write-constants c = search rules
 
-add-e-3 : tie.Need-overflow-add-e-3
+add-e-3 : tie.Need-overflow_add-e-then-p-k
 add-e-3 c = search rules
 
-returns-3 : tie.Need-returns-3
+returns-3 : tie.Need-returns-then-p-k
 returns-3 c =
-    let p = c.before.before in let a = p.before.before.before.args in let q = p.place.result in
-    placed a.b a.x q a.constants.now (with_term a.b (16 + q) a.b.seen (a.b.constants + 1), set a.constants.now q a.x) p.before.before.if1.false p.place.ensures
-    (rw (lt-leb 16 q c.before.if2.false, eq-eqb q a.b.constants c.if3.true))
+    let p = c.before.before in let a = p.before.before.before.args in let q = p.before.place-p.result in
+    placed a.b a.x q a.constants.now (with_term a.b (16 + q) a.b.seen (a.b.constants + 1), set a.constants.now q a.x) p.before.before.if-x-ge-PAST.false p.before.place-p.ensures
+    (rw (lt-leb 16 q c.before.before.if-p-ge-CONSTANTS.false, eq-eqb q a.b.constants c.before.if-p-k.true))
 
-returns-4 : tie.Need-returns-4
+returns-4 : tie.Need-returns-else-p-k
 returns-4 c =
-    let p = c.before.before in let a = p.before.before.before.args in let q = p.place.result in
-    placed a.b a.x q a.constants.now (with_term a.b (16 + q) a.b.seen a.b.constants, a.constants.now) p.before.before.if1.false p.place.ensures
-    (rw (lt-leb 16 q c.before.if2.false, ne_eqb q a.b.constants c.if3.false))
+    let p = c.before.before in let a = p.before.before.args in let q = p.place-p.result in
+    placed a.b a.x q a.constants.now (with_term a.b (16 + q) a.b.seen a.b.constants, a.constants.now) p.before.if-x-ge-PAST.false p.place-p.ensures
+    (rw (lt-leb 16 q c.before.if-p-ge-CONSTANTS.false, ne_eqb q a.b.constants c.if-p-k.false))
 
-pub constant-spec : {M : Type 1} → statement M
-constant-spec = tie.close (tie.spec returns cast-place place-requires returns-2 cast-e add-e mul-e element-write-e add-e-2 cast-constants mul-constants element-write-constants add-e-3 returns-3 returns-4)
+pub constant_spec : {M : Type 1} → statement M
+constant_spec = tie.close (tie.spec returns cast-place place-requires returns-2 cast-e add-e mul-e element-write-e add-e-2 cast-constants mul-constants element-write-constants add-e-3 returns-3 returns-4)

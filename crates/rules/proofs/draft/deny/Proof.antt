@@ -5,10 +5,10 @@ use borrow.Author.Tests.{not-true, not-false}
 use Rattle.rules.proofs.draft.deny.Statement.{statement}
 use Rattle.rules.proofs.draft.deny.Tie as tie
 
-returns : tie.Need-returns
-returns c = rw (not-true c.before.args.denied c.if1.true)
+returns : tie.Need-returns-then-not-denied
+returns c = rw (not-true c.before.args.denied c.if-not-denied.true)
 
-sub-negation : tie.Need-overflow-sub-negation
+sub-negation : tie.Need-overflow_sub-n
 sub-negation c = search rules
 
 negation-requires : tie.Need-negation-requires
@@ -17,10 +17,10 @@ negation-requires c κs = search rules
 add-requires : tie.Need-add-requires
 add-requires c κs = search rules
 
-returns-2 : tie.Need-returns-2
+returns-2 : tie.Need-returns
 returns-2 c =
     let x = c.before.before.before.before.args in
-    deny-made x.denied c.before.before.negation.result x.n x.nodes.now (c.add.result, c.add.new.1.1.0) (not-false x.denied c.before.before.before.if1.false) c.before.before.negation.ensures c.add.ensures
+    deny-made x.denied c.before.before.negation.result x.n x.nodes.now (c.add.result, c.add.new.1.1.0) (not-false x.denied c.before.before.before.if-not-denied.false) c.before.before.negation.ensures c.add.ensures
 
-pub deny-spec : {M : Type 1} → statement M
-deny-spec = tie.close (tie.spec returns sub-negation negation-requires add-requires returns-2)
+pub deny_spec : {M : Type 1} → statement M
+deny_spec = tie.close (tie.spec returns sub-negation negation-requires add-requires returns-2)

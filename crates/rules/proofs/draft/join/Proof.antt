@@ -5,13 +5,13 @@ use borrow.Author.Tests.{eq-eqb}
 use Rattle.rules.proofs.draft.join.Statement.{statement}
 use Rattle.rules.proofs.draft.join.Tie as tie
 
-returns : tie.Need-returns
-returns c = rw (eq-eqb c.before.args.before 0 c.if1.true)
+returns : tie.Need-returns-then-before-eq0
+returns c = rw (eq-eqb c.before.args.before 0 c.if-before-eq0.true)
 
-sub-junction : tie.Need-overflow-sub-junction
+sub-junction : tie.Need-overflow_sub-before
 sub-junction c = search rules
 
-sub-junction-2 : tie.Need-overflow-sub-junction-2
+sub-junction-2 : tie.Need-overflow_sub-n
 sub-junction-2 c = search rules
 
 junction-requires : tie.Need-junction-requires
@@ -20,10 +20,10 @@ junction-requires c κs = search rules
 add-requires : tie.Need-add-requires
 add-requires c κs = search rules
 
-returns-2 : tie.Need-returns-2
+returns-2 : tie.Need-returns
 returns-2 c =
     let x = c.before.before.before.before.args in
-    join-made x.before c.before.before.junction.result x.n x.nodes.now (c.add.result, c.add.new.1.1.0) c.before.before.before.if1.false c.before.before.junction.ensures c.add.ensures
+    join-made x.before c.before.before.junction.result x.n x.nodes.now (c.add.result, c.add.new.1.1.0) c.before.before.before.if-before-eq0.false c.before.before.junction.ensures c.add.ensures
 
-pub join-spec : {M : Type 1} → statement M
-join-spec = tie.close (tie.spec returns sub-junction sub-junction-2 junction-requires add-requires returns-2)
+pub join_spec : {M : Type 1} → statement M
+join_spec = tie.close (tie.spec returns sub-junction sub-junction-2 junction-requires add-requires returns-2)

@@ -4,18 +4,18 @@ use Rattle.rules.specs.Code.Draft.Laws.{settled-full, settled-done}
 use Rattle.rules.proofs.draft.settle.Statement.{statement}
 use Rattle.rules.proofs.draft.settle.Tie as tie
 
-append-requires : tie.Need-append-requires
+append-requires : tie.Need-append-end-requires
 append-requires c κs = search rules
 
-returns : tie.Need-returns
+returns : tie.Need-returns-then-end-gt-NODES
 returns c =
     let d = c.before in let a = d.before.before.args in
-    settled-full a.b a.w a.nodes.now d.append.result d.append.new.1.1.1.0 d.append.ensures c.if1.true
+    settled-full a.b a.w a.nodes.now d.append-end.result d.append-end.new.1.1.1.0 d.append-end.ensures c.if-end-gt-NODES.true
 
-returns-2 : tie.Need-returns-2
+returns-2 : tie.Need-returns
 returns-2 c =
     let d = c.before.before in let a = d.before.before.args in
-    settled-done a.b a.w a.nodes.now d.append.result d.append.new.1.1.1.0 d.append.ensures c.before.if1.false
+    settled-done a.b a.w a.nodes.now d.append-end.result d.append-end.new.1.1.1.0 d.append-end.ensures c.before.if-end-gt-NODES.false
 
-pub settle-spec : {M : Type 1} → statement M
-settle-spec = tie.close (tie.spec append-requires returns returns-2)
+pub settle_spec : {M : Type 1} → statement M
+settle_spec = tie.close (tie.spec append-requires returns returns-2)

@@ -6,7 +6,7 @@ use Rattle.rules.proofs.finish.finish.Tie as tie
 
 -- ---- what is known at a place
 
-abbrev start : tie.After-is-missing → tie.Start
+abbrev start : tie.After-is_missing → tie.Start
 start c = c.before.before.before.before.before
 
 -- ---- the needs
@@ -14,52 +14,52 @@ start c = c.before.before.before.before.before
 refused-requires : tie.Need-refused-requires
 refused-requires c κs = search rules
 
-returns : tie.Need-returns
+returns : tie.Need-returns-then-h
 returns c =
     let i = c.before in let a = i.before.args in
-    ends-head a.h a.b a.constants a.nodes a.length i.if1.true c.refused.result c.refused.ensures
+    ends-head a.h a.b a.constants a.nodes a.length i.if-h.true c.refused.result c.refused.ensures
 
-refused-requires-2 : tie.Need-refused-requires-2
+refused-requires-2 : tie.Need-refused-requires-then-b
 refused-requires-2 c κs = search rules
 
-returns-2 : tie.Need-returns-2
+returns-2 : tie.Need-returns-then-b
 returns-2 c =
     let i = c.before in let a = i.before.before.args in
-    ends-body a.h a.b a.constants a.nodes a.length i.before.if1.false i.if2.true c.refused2.result c.refused2.ensures
+    ends-body a.h a.b a.constants a.nodes a.length i.before.if-h.false i.if-b.true c.refused-then-b.result c.refused-then-b.ensures
 
-is-missing-requires : tie.Need-is-missing-requires
-is-missing-requires c κs = let s = c.before.before.before.before in s.requires.0 c.before.before.before.if1.false
+is-missing-requires : tie.Need-is_missing-requires
+is-missing-requires c κs = let s = c.before.before.before.before in s.requires.0 c.before.before.before.if-h.false
 
-refused-requires-3 : tie.Need-refused-requires-3
+refused-requires-3 : tie.Need-refused-requires-then-is_missing
 refused-requires-3 c κs = search rules
 
-returns-3 : tie.Need-returns-3
+returns-3 : tie.Need-returns-then-is_missing
 returns-3 c =
     let m = c.before.before in let a = (start m).args in let i = m.before.before.before in
-    ends-missing a.h a.b a.constants a.nodes a.length i.before.if1.false i.if2.false m.is-missing.result m.is-missing.ensures c.before.if3.true c.refused3.result c.refused3.ensures
+    ends-missing a.h a.b a.constants a.nodes a.length i.before.if-h.false i.if-b.false m.is_missing.result m.is_missing.ensures c.before.if-is_missing.true c.refused-then-is_missing.result c.refused-then-is_missing.ensures
 
-quantify-requires : tie.Need-quantify-requires
+quantify-requires : tie.Need-quantify-end-requires
 quantify-requires c κs =
     let m = c.before.before.before in let s = start m in let i = m.before.before.before in
-    (s.pre.0 i.before.if1.false, s.pre.2 i.if2.false, s.pre.1.nodes_small)
+    (s.pre.0 i.before.if-h.false, s.pre.2 i.if-b.false, s.pre.1.nodes_small)
 
-refused-requires-4 : tie.Need-refused-requires-4
+refused-requires-4 : tie.Need-refused-requires-then-end-gt-NODES
 refused-requires-4 c κs = search rules
 
-returns-4 : tie.Need-returns-4
+returns-4 : tie.Need-returns-then-end-gt-NODES
 returns-4 c =
     let q = c.before.before in let m = q.before.before.before.before in let a = (start m).args in let i = m.before.before.before in
-    ends-full a.h a.b a.constants a.nodes a.length i.before.if1.false i.if2.false m.is-missing.result m.is-missing.ensures q.before.before.before.if3.false
-    q.quantify.result q.quantify.new.1.1.1.0 q.quantify.ensures c.before.if4.true c.refused4.result c.refused4.ensures
+    ends-full a.h a.b a.constants a.nodes a.length i.before.if-h.false i.if-b.false m.is_missing.result m.is_missing.ensures q.before.before.before.if-is_missing.false
+    q.quantify-end.result q.quantify-end.new.1.1.1.0 q.quantify-end.ensures c.before.if-end-gt-NODES.true c.refused-then-end-gt-NODES.result c.refused-then-end-gt-NODES.ensures
 
 packed-requires : tie.Need-packed-requires
-packed-requires c κs = let m = c.before.before.before.before.before in let s = start m in (s.pre.1.constants_small, c.if4.false)
+packed-requires c κs = let m = c.before.before.before.before.before in let s = start m in (s.pre.1.constants_small, c.if-end-gt-NODES.false)
 
-returns-5 : tie.Need-returns-5
+returns-5 : tie.Need-returns
 returns-5 c =
     let q = c.before.before in let m = q.before.before.before.before in let a = (start m).args in let i = m.before.before.before in
-    ends-packed a.h a.b a.constants a.nodes a.length i.before.if1.false i.if2.false m.is-missing.result m.is-missing.ensures q.before.before.before.if3.false
-    q.quantify.result q.quantify.new.1.1.1.0 q.quantify.ensures c.before.if4.false c.packed.result c.packed.ensures
+    ends-packed a.h a.b a.constants a.nodes a.length i.before.if-h.false i.if-b.false m.is_missing.result m.is_missing.ensures q.before.before.before.if-is_missing.false
+    q.quantify-end.result q.quantify-end.new.1.1.1.0 q.quantify-end.ensures c.before.if-end-gt-NODES.false c.packed.result c.packed.ensures
 
 pub finish_spec : {M : Type 1} → statement M
 finish_spec =

@@ -10,22 +10,22 @@ use Rattle.rules.proofs.finish.is_column.Tie as tie
 places : (c : tie.Start) → length c.args.h.variables ≡ 4
 places c = search rules
 
-cast-some-of : tie.Need-overflow-cast-some-of
+cast-some-of : tie.Need-overflow_cast-h
 cast-some-of c = let f = c.before.before.requires.few in search (rules, f)
 
-array-read-some-of : tie.Need-array-read-some-of
+array-read-some-of : tie.Need-bounds-v-0
 array-read-some-of c = search rules
 
-array-read-some-of-2 : tie.Need-array-read-some-of-2
+array-read-some-of-2 : tie.Need-bounds-v-1
 array-read-some-of-2 c = search rules
 
-array-read-some-of-3 : tie.Need-array-read-some-of-3
+array-read-some-of-3 : tie.Need-bounds-v-2
 array-read-some-of-3 c = search rules
 
-array-read-some-of-4 : tie.Need-array-read-some-of-4
+array-read-some-of-4 : tie.Need-bounds-v-3
 array-read-some-of-4 c = search rules
 
-some-of-requires : tie.Need-some-of-requires
+some-of-requires : tie.Need-some_of-requires
 some-of-requires c κs = search rules
 
 returns : tie.Need-returns
@@ -33,5 +33,5 @@ returns c =
     let s = c.before.before.before in let a = s.args in
     c.Some-of.ensures ∙ four-tested (eqb a.x) a.h.count a.h.variables (places s)
 
-pub is-column-spec : {M : Type 1} → statement M
-is-column-spec = tie.close (tie.spec cast-some-of array-read-some-of array-read-some-of-2 array-read-some-of-3 array-read-some-of-4 some-of-requires returns)
+pub is_column_spec : {M : Type 1} → statement M
+is_column_spec = tie.close (tie.spec cast-some-of array-read-some-of array-read-some-of-2 array-read-some-of-3 array-read-some-of-4 some-of-requires returns)

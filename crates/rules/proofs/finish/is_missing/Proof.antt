@@ -10,55 +10,55 @@ use Rattle.rules.proofs.finish.is_missing.Tie as tie
 places : (c : tie.Start) → length c.args.h.variables ≡ 4
 places c = search rules
 
-cast-some-of : tie.Need-overflow-cast-some-of
+cast-some-of : tie.Need-overflow_cast-h
 cast-some-of c = let f = c.before.before.requires.few in search (rules, f)
 
-array-read-some-of : tie.Need-array-read-some-of
+array-read-some-of : tie.Need-bounds-v-0
 array-read-some-of c = search rules
 
-cast-some-of-2 : tie.Need-overflow-cast-some-of-2
+cast-some-of-2 : tie.Need-overflow_cast-v
 cast-some-of-2 c = search rules
 
-element-copy-out-some-of : tie.Need-element-copy-out-some-of
-element-copy-out-some-of c = c.before.before.requires.small 0
+element-copy-out-some-of : tie.Need-bounds-seen-v
+element-copy-out-some-of c = c.before.before.before.requires.small 0
 
-array-read-some-of-2 : tie.Need-array-read-some-of-2
+array-read-some-of-2 : tie.Need-bounds-v-1
 array-read-some-of-2 c = search rules
 
-cast-some-of-3 : tie.Need-overflow-cast-some-of-3
+cast-some-of-3 : tie.Need-overflow_cast-v-2
 cast-some-of-3 c = search rules
 
-element-copy-out-some-of-2 : tie.Need-element-copy-out-some-of-2
-element-copy-out-some-of-2 c = c.before.before.before.requires.small 1
+element-copy-out-some-of-2 : tie.Need-bounds-seen-v-2
+element-copy-out-some-of-2 c = c.before.before.before.before.requires.small 1
 
-array-read-some-of-3 : tie.Need-array-read-some-of-3
+array-read-some-of-3 : tie.Need-bounds-v-2
 array-read-some-of-3 c = search rules
 
-cast-some-of-4 : tie.Need-overflow-cast-some-of-4
+cast-some-of-4 : tie.Need-overflow_cast-v-3
 cast-some-of-4 c = search rules
 
-element-copy-out-some-of-3 : tie.Need-element-copy-out-some-of-3
-element-copy-out-some-of-3 c = c.before.before.before.before.requires.small 2
+element-copy-out-some-of-3 : tie.Need-bounds-seen-v-3
+element-copy-out-some-of-3 c = c.before.before.before.before.before.requires.small 2
 
-array-read-some-of-4 : tie.Need-array-read-some-of-4
+array-read-some-of-4 : tie.Need-bounds-v-3
 array-read-some-of-4 c = search rules
 
-cast-some-of-5 : tie.Need-overflow-cast-some-of-5
+cast-some-of-5 : tie.Need-overflow_cast-v-4
 cast-some-of-5 c = search rules
 
-element-copy-out-some-of-4 : tie.Need-element-copy-out-some-of-4
-element-copy-out-some-of-4 c = c.before.before.before.before.before.requires.small 3
+element-copy-out-some-of-4 : tie.Need-bounds-seen-v-4
+element-copy-out-some-of-4 c = c.before.before.before.before.before.before.requires.small 3
 
-some-of-requires : tie.Need-some-of-requires
+some-of-requires : tie.Need-some_of-requires
 some-of-requires c κs = search rules
 
 returns : tie.Need-returns
 returns c =
-    let s = c.before.before.before.before.before.before.before in let a = s.args in
+    let s = c.before.before.before.before.before.before.before in let a = s.before.args in
     c.Some-of.ensures ∙ four-tested (λ x. not (get_or a.seen.now x false)) a.h.count a.h.variables (places s)
 
-pub is-missing-spec : {M : Type 1} → statement M
-is-missing-spec =
+pub is_missing_spec : {M : Type 1} → statement M
+is_missing_spec =
     tie.close
     (tie.spec
     cast-some-of

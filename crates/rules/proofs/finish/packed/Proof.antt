@@ -5,22 +5,22 @@ use Rattle.causes.specs.declared.Answer.TheVariants.{Done}
 use Rattle.rules.proofs.finish.packed.Statement.{statement}
 use Rattle.rules.proofs.finish.packed.Tie as tie
 
-slice-aggregate-query : tie.Need-slice-aggregate-query
+slice-aggregate-query : tie.Need-slice_bounds-query-end
 slice-aggregate-query c = search rules
 
 query-requires : tie.Need-query-requires
 query-requires c κs = search rules
 
-mul-t12 : tie.Need-overflow-mul-t12
+mul-t12 : tie.Need-overflow_mul-result
 mul-t12 c = search rules
 
-add-t13 : tie.Need-overflow-add-t13
+add-t13 : tie.Need-overflow_add-result
 add-t13 c = search rules
 
-mul-t14 : tie.Need-overflow-mul-t14
+mul-t14 : tie.Need-overflow_mul-result-2
 mul-t14 c = search rules
 
-add-t15 : tie.Need-overflow-add-t15
+add-t15 : tie.Need-overflow_add-result-2
 add-t15 c = search rules
 
 returns : tie.Need-returns
@@ -33,5 +33,5 @@ returns c =
       size = 2 + 4 * a.k + 4 * a.n;
     }
 
-pub packed-spec : {M : Type 1} → statement M
-packed-spec = tie.close (tie.spec slice-aggregate-query query-requires mul-t12 add-t13 mul-t14 add-t15 returns)
+pub packed_spec : {M : Type 1} → statement M
+packed_spec = tie.close (tie.spec slice-aggregate-query query-requires mul-t12 add-t13 mul-t14 add-t15 returns)

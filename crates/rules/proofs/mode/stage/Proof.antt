@@ -5,183 +5,183 @@ use Rattle.rules.proofs.mode.stage.Reads as reads
 use Rattle.rules.proofs.mode.stage.Lts as lts
 
 -- src/mode.rt:194:22
-enum_told : tie.Need-enum-told
+enum_told : tie.Need-enum_told-1
 enum_told c = search rules
 
 -- src/mode.rt:195:24
-enum-told-2 : tie.Need-enum-told-2
+enum-told-2 : tie.Need-enum_told-in-Start
 enum-told-2 c = search rules
 
 -- src/mode.rt:196:24
-enum-told-3 : tie.Need-enum-told-3
+enum-told-3 : tie.Need-enum_told-in-Letter
 enum-told-3 c = search rules
 
 -- src/mode.rt:197:28
-enum-told-4 : tie.Need-enum-told-4
+enum-told-4 : tie.Need-enum_told-in-ColumnDue
 enum-told-4 c = search rules
 
 -- src/mode.rt:198:25
-enum-told-5 : tie.Need-enum-told-5
+enum-told-5 : tie.Need-enum_told-in-Column
 enum-told-5 c = search rules
 
 -- src/mode.rt:199:25
-enum-told-6 : tie.Need-enum-told-6
+enum-told-6 : tie.Need-enum_told-in-Closed
 enum-told-6 c = search rules
 
 -- src/mode.rt:200:24
-enum-told-7 : tie.Need-enum-told-7
+enum-told-7 : tie.Need-enum_told-in-Colon
 enum-told-7 c = search rules
 
 -- src/mode.rt:201:26
-enum-told-8 : tie.Need-enum-told-8
+enum-told-8 : tie.Need-enum_told-in-GoalDue
 enum-told-8 c = search rules
 
 -- src/mode.rt:202:26
-enum-told-9 : tie.Need-enum-told-9
+enum-told-9 : tie.Need-enum_told-in-DenialN
 enum-told-9 c = search rules
 
 -- src/mode.rt:203:27
-enum-told-10 : tie.Need-enum-told-10
+enum-told-10 : tie.Need-enum_told-in-DenialNo
 enum-told-10 c = search rules
 
 -- src/mode.rt:204:28
-enum-told-11 : tie.Need-enum-told-11
+enum-told-11 : tie.Need-enum_told-in-DenialNot
 enum-told-11 c = search rules
 
 -- src/mode.rt:205:25
-enum-told-12 : tie.Need-enum-told-12
+enum-told-12 : tie.Need-enum_told-in-Denial
 enum-told-12 c = search rules
 
 -- src/mode.rt:206:27
-enum-told-13 : tie.Need-enum-told-13
+enum-told-13 : tie.Need-enum_told-in-Relation
 enum-told-13 c = search rules
 
 -- src/mode.rt:207:26
-enum-told-14 : tie.Need-enum-told-14
+enum-told-14 : tie.Need-enum_told-in-TermDue
 enum-told-14 c = search rules
 
 -- src/mode.rt:208:23
-enum-told-15 : tie.Need-enum-told-15
+enum-told-15 : tie.Need-enum_told-in-Term
 enum-told-15 c = search rules
 
 -- src/mode.rt:209:24
-enum-told-16 : tie.Need-enum-told-16
+enum-told-16 : tie.Need-enum_told-in-Ended
 enum-told-16 c = search rules
 
 -- src/mode.rt:210:26
-enum-told-17 : tie.Need-enum-told-17
+enum-told-17 : tie.Need-enum_told-in-Subject
 enum-told-17 c = search rules
 
 -- src/mode.rt:211:25
-enum-told-18 : tie.Need-enum-told-18
+enum-told-18 : tie.Need-enum_told-in-Spaced
 enum-told-18 c = search rules
 
 -- src/mode.rt:212:25
-enum-told-19 : tie.Need-enum-told-19
+enum-told-19 : tie.Need-enum_told-in-Equals
 enum-told-19 c = search rules
 
 -- src/mode.rt:213:27
-enum-told-20 : tie.Need-enum-told-20
+enum-told-20 : tie.Need-enum_told-in-OtherDue
 enum-told-20 c = search rules
 
 -- src/mode.rt:214:24
-enum-told-21 : tie.Need-enum-told-21
+enum-told-21 : tie.Need-enum_told-in-Other
 enum-told-21 c = search rules
 
 -- src/mode.rt:215:23
-enum-told-22 : tie.Need-enum-told-22
+enum-told-22 : tie.Need-enum_told-in-Done
 enum-told-22 c = search rules
 
 -- src/mode.rt:190:1
-returns : tie.Need-returns
-returns c = rw c.enum_told.given.1
+returns : tie.Need-returns-in-Out
+returns c = rw c.enum_told-1.given.1
 
 -- src/mode.rt:190:1
-returns-2 : tie.Need-returns-2
-returns-2 c = rw c.enum-told2.given.1
+returns-2 : tie.Need-returns-in-Start
+returns-2 c = rw c.enum_told-in-Start-1.given.1
 
 -- src/mode.rt:190:1
-returns-3 : tie.Need-returns-3
-returns-3 c = rw c.enum-told3.given.1
+returns-3 : tie.Need-returns-in-Letter
+returns-3 c = rw c.enum_told-in-Letter-1.given.1
 
 -- src/mode.rt:190:1
-returns-4 : tie.Need-returns-4
-returns-4 c = rw c.enum-told4.given.1
+returns-4 : tie.Need-returns-in-ColumnDue
+returns-4 c = rw c.enum_told-in-ColumnDue-1.given.1
 
 -- src/mode.rt:190:1
-returns-5 : tie.Need-returns-5
-returns-5 c = rw c.enum-told5.given.1
+returns-5 : tie.Need-returns-in-Column
+returns-5 c = rw c.enum_told-in-Column-1.given.1
 
 -- src/mode.rt:190:1
-returns-6 : tie.Need-returns-6
-returns-6 c = rw c.enum-told6.given.1
+returns-6 : tie.Need-returns-in-Closed
+returns-6 c = rw c.enum_told-in-Closed-1.given.1
 
 -- src/mode.rt:190:1
-returns-7 : tie.Need-returns-7
-returns-7 c = rw c.enum-told7.given.1
+returns-7 : tie.Need-returns-in-Colon
+returns-7 c = rw c.enum_told-in-Colon-1.given.1
 
 -- src/mode.rt:190:1
-returns-8 : tie.Need-returns-8
-returns-8 c = rw c.enum-told8.given.1
+returns-8 : tie.Need-returns-in-GoalDue
+returns-8 c = rw c.enum_told-in-GoalDue-1.given.1
 
 -- src/mode.rt:190:1
-returns-9 : tie.Need-returns-9
-returns-9 c = rw c.enum-told9.given.1
+returns-9 : tie.Need-returns-in-DenialN
+returns-9 c = rw c.enum_told-in-DenialN-1.given.1
 
 -- src/mode.rt:190:1
-returns-10 : tie.Need-returns-10
-returns-10 c = rw c.enum-told10.given.1
+returns-10 : tie.Need-returns-in-DenialNo
+returns-10 c = rw c.enum_told-in-DenialNo-1.given.1
 
 -- src/mode.rt:190:1
-returns-11 : tie.Need-returns-11
-returns-11 c = rw c.enum-told11.given.1
+returns-11 : tie.Need-returns-in-DenialNot
+returns-11 c = rw c.enum_told-in-DenialNot-1.given.1
 
 -- src/mode.rt:190:1
-returns-12 : tie.Need-returns-12
-returns-12 c = rw c.enum-told12.given.1
+returns-12 : tie.Need-returns-in-Denial
+returns-12 c = rw c.enum_told-in-Denial-1.given.1
 
 -- src/mode.rt:190:1
-returns-13 : tie.Need-returns-13
-returns-13 c = rw c.enum-told13.given.1
+returns-13 : tie.Need-returns-in-Relation
+returns-13 c = rw c.enum_told-in-Relation-1.given.1
 
 -- src/mode.rt:190:1
-returns-14 : tie.Need-returns-14
-returns-14 c = rw c.enum-told14.given.1
+returns-14 : tie.Need-returns-in-TermDue
+returns-14 c = rw c.enum_told-in-TermDue-1.given.1
 
 -- src/mode.rt:190:1
-returns-15 : tie.Need-returns-15
-returns-15 c = rw c.enum-told15.given.1
+returns-15 : tie.Need-returns-in-Term
+returns-15 c = rw c.enum_told-in-Term-1.given.1
 
 -- src/mode.rt:190:1
-returns-16 : tie.Need-returns-16
-returns-16 c = rw c.enum-told16.given.1
+returns-16 : tie.Need-returns-in-Ended
+returns-16 c = rw c.enum_told-in-Ended-1.given.1
 
 -- src/mode.rt:190:1
-returns-17 : tie.Need-returns-17
-returns-17 c = rw c.enum-told17.given.1
+returns-17 : tie.Need-returns-in-Subject
+returns-17 c = rw c.enum_told-in-Subject-1.given.1
 
 -- src/mode.rt:190:1
-returns-18 : tie.Need-returns-18
-returns-18 c = rw c.enum-told18.given.1
+returns-18 : tie.Need-returns-in-Spaced
+returns-18 c = rw c.enum_told-in-Spaced-1.given.1
 
 -- src/mode.rt:190:1
-returns-19 : tie.Need-returns-19
-returns-19 c = rw c.enum-told19.given.1
+returns-19 : tie.Need-returns-in-Equals
+returns-19 c = rw c.enum_told-in-Equals-1.given.1
 
 -- src/mode.rt:190:1
-returns-20 : tie.Need-returns-20
-returns-20 c = rw c.enum-told20.given.1
+returns-20 : tie.Need-returns-in-OtherDue
+returns-20 c = rw c.enum_told-in-OtherDue-1.given.1
 
 -- src/mode.rt:190:1
-returns-21 : tie.Need-returns-21
-returns-21 c = rw c.enum-told21.given.1
+returns-21 : tie.Need-returns-in-Other
+returns-21 c = rw c.enum_told-in-Other-1.given.1
 
 -- src/mode.rt:190:1
-returns-22 : tie.Need-returns-22
-returns-22 c = rw c.enum-told22.given.1
+returns-22 : tie.Need-returns-in-Done
+returns-22 c = rw c.enum_told-in-Done-1.given.1
 
-pub stage-spec : {M : Type 1} → statement M
-stage-spec =
+pub stage_spec : {M : Type 1} → statement M
+stage_spec =
     tie.close
     (tie.spec
     enum_told

@@ -5,19 +5,19 @@ use Rattle.rules.specs.Code.Modes.Laws.{suits-other}
 use Rattle.rules.proofs.mode.suits.Statement.{statement}
 use Rattle.rules.proofs.mode.suits.Tie as tie
 
-returns : tie.Need-returns
-returns c = rw c.match.keys1
+returns : tie.Need-returns-in-0
+returns c = rw c.in-0.keys1
 
-returns-2 : tie.Need-returns-2
-returns-2 c = rw c.match.keys2
+returns-2 : tie.Need-returns-in-2
+returns-2 c = rw c.in-2.keys2
 
-returns-3 : tie.Need-returns-3
-returns-3 c = rw c.match.keys3
+returns-3 : tie.Need-returns-in-4
+returns-3 c = rw c.in-4.keys3
 
-returns-4 : tie.Need-returns-4
+returns-4 : tie.Need-returns-in_default
 returns-4 c =
-    let r = c.match.rest in let a = c.before.args in
+    let r = c.in_default.rest in let a = c.before.args in
     sym (suits-other a.effect a.started (λ e. omega arith) (λ e. omega arith) (λ e. omega arith))
 
-pub suits-spec : {M : Type 1} → statement M
-suits-spec = tie.close (tie.spec returns returns-2 returns-3 returns-4)
+pub suits_spec : {M : Type 1} → statement M
+suits_spec = tie.close (tie.spec returns returns-2 returns-3 returns-4)

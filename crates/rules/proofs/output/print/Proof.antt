@@ -15,26 +15,26 @@ use Rattle.rules.proofs.output.print.Tie as tie
 -- ---- what is known at a place
 
 -- What packing handed back.
-abbrev start : tie.After-pack → tie.Start
+abbrev start : tie.After-pack-p → tie.Start
 start c = c.before.before
 
-short : (c : tie.After-pack) → c.pack.result.size ≤ max_bytes
-short c = reply-short (start c).args.text.now c.pack.result c.pack.ensures
+short : (c : tie.After-pack-p) → c.pack.result.size ≤ max_bytes
+short c = reply-short (start c).args.text.now c.pack-p.result c.pack-p.ensures
 
-held : (c : tie.After-pack) → length c.pack.result.bytes ≡ max_bytes
+held : (c : tie.After-pack-p) → length c.pack.result.bytes ≡ max_bytes
 held c = search rules
 
-taken : (c : tie.After-pack) → length (take c.pack.result.size c.pack.result.bytes) ≡ c.pack.result.size
-taken c = length-take-le c.pack.result.size c.pack.result.bytes (omega (arith, short c, held c))
+taken : (c : tie.After-pack-p) → length (take c.pack.result.size c.pack.result.bytes) ≡ c.pack.result.size
+taken c = length-take-le c.pack-p.result.size c.pack-p.result.bytes (omega (arith, short c, held c))
 
 -- Where the buffer is lent to the next call, its size is known.
-abbrev refused : tie.After-refusal-arg → tie.After-pack
+abbrev refused : tie.After-refusal-arg-1 → tie.After-pack-p
 refused c = c.before.before.before.before
 
-refused-sized : (c : tie.After-refusal-arg) → length (start (refused c)).args.out.now ≡ max_bytes
+refused-sized : (c : tie.After-refusal-arg-1) → length (start (refused c)).args.out.now ≡ max_bytes
 refused-sized c = search rules
 
-abbrev packed : tie.After-bytes-arg2 → tie.After-pack
+abbrev packed : tie.After-bytes-arg2 → tie.After-pack-p
 packed c = c.before.before.before.before.before.before.before
 
 packed-sized : (c : tie.After-bytes-arg2) → length (start (packed c)).args.out.now ≡ max_bytes
@@ -42,44 +42,44 @@ packed-sized c = search rules
 
 -- ---- the needs
 
-pack-requires : tie.Need-pack-requires
+pack-requires : tie.Need-pack-p-requires
 pack-requires c κs = search rules
 
-enum-known-answer : tie.Need-enum-known-answer
+enum-known-answer : tie.Need-enum_known-answer
 enum-known-answer c = search rules
 
 refusal-requires : tie.Need-refusal-requires
 refusal-requires c κs = omega (arith, refused-sized c)
 
-returns : tie.Need-returns
+returns : tie.Need-returns-in-Refused
 returns c =
     let k = refused c.before in let a = (start k).args in
     let few : c.refusal.result ≤ 33 = c.refusal.ensures.1 in (
-      printed-refused a.text.now k.pack.result k.pack.ensures a.out.now _ _ c.refusal.result c.refusal.new.1.1.0 c.before.before.before.answer.given.1
+      printed-refused a.text.now k.pack.result k.pack.ensures a.out.now _ _ c.refusal.result c.refusal.new.1.1.0 c.before.before.before.answer-1.given.1
           (omega (arith, few, refused-sized c.before)) c.refusal.ensures.0,
       omega (arith, few),
     )
 
-enum_told : tie.Need-enum-told
+enum_told : tie.Need-enum_told-1
 enum_told c = search rules
 
-slice-aggregate-bytes : tie.Need-slice-aggregate-bytes
-slice-aggregate-bytes c = sym (taken c.before.before.before.before.before.before)
+slice-aggregate-bytes : tie.Need-slice_bounds-bytes-end
+slice-aggregate-bytes c = sym (taken c.before.before.before.before.before)
 
 bytes-requires : tie.Need-bytes-requires
 bytes-requires c κs = let k = packed c in omega (arith, taken k, short k, packed-sized c)
 
-returns-2 : tie.Need-returns-2
+returns-2 : tie.Need-returns
 returns-2 c =
     let k = packed c.before in let a = (start k).args in let q = k.pack.result in
-    let few : c.bytes3.result ≤ max_bytes = omega (arith, taken k, short k, wrote-end 0 c.bytes3.result (take q.size q.bytes) a.out.now c.bytes3.new.1.0 c.bytes3.ensures) in (
-      printed-packed a.text.now q k.pack.ensures a.out.now c.bytes3.result c.bytes3.new.1.0 c.before.before.before.before.before.before.enum_told.given.1
-          (omega (arith, few, packed-sized c.before)) c.bytes3.ensures,
+    let few : c.bytes.result ≤ max_bytes = omega (arith, taken k, short k, wrote-end 0 c.bytes.result (take q.size q.bytes) a.out.now c.bytes.new.1.0 c.bytes.ensures) in (
+      printed-packed a.text.now q k.pack.ensures a.out.now c.bytes.result c.bytes.new.1.0 c.before.before.before.before.before.enum_told-1.given.1
+          (omega (arith, few, packed-sized c.before)) c.bytes.ensures,
       few,
     )
 
-pub print-spec : {M : Type 1} → statement M
-print-spec =
+pub print_spec : {M : Type 1} → statement M
+print_spec =
     tie.close
     (tie.spec
     pack-requires

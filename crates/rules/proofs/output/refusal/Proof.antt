@@ -43,74 +43,74 @@ module _ (n middle next : ℕ) (out o₁ o₂ : List ℕ) (e₁ : (middle, o₁)
 -- ---- what is known at a place
 
 -- The word is written.
-word-ends : (c : tie.After-bytes) → let a = c.before.before.before.before.args in (c.bytes.result ≡ 8) × (length c.bytes.new.1.0 ≡ length a.out.now)
+word-ends : (c : tie.After-bytes-middle) → let a = c.before.before.before.before.args in (c.bytes-middle.result ≡ 8) × (length c.bytes-middle.new.1.0 ≡ length a.out.now)
 word-ends c =
     let a = c.before.before.before.before.args in
-    (wrote-end 0 c.bytes.result word a.out.now c.bytes.new.1.0 c.bytes.ensures, wrote-length 0 c.bytes.result word a.out.now c.bytes.new.1.0 c.bytes.ensures)
+    (wrote-end 0 c.bytes-middle.result word a.out.now c.bytes-middle.new.1.0 c.bytes-middle.ensures, wrote-length 0 c.bytes-middle.result word a.out.now c.bytes-middle.new.1.0 c.bytes-middle.ensures)
 
 -- The number is written.
-module _ (c : tie.After-digits) where
-  abbrev worded : tie.After-bytes
-  worded = c.before.before.before.before
+module _ (c : tie.After-digits-next) where
+  abbrev worded : tie.After-bytes-middle
+  worded = c
 
   abbrev start : tie.Start
   start = worded.before.before.before.before
 
-  number-room : (c.digits.result ≤ 11) × (length c.digits.new.1.1.0 ≡ length start.args.out.now)
+  number-room : (c.digits-next.result ≤ 11) × (length c.digits-next.new.1.1.0 ≡ length start.args.out.now)
   number-room =
-      let b = worded.bytes in let d = c.digits in
+      let b = worded.bytes in let d = c.digits-next in
       number-ends start.args.number b.result d.result start.args.out.now b.last.1.0 d.new.1.1.0 b.ensures d.ensures
 
 -- The place is written.
-module _ (c : tie.After-digits2) where
-  abbrev digited : tie.After-digits
-  digited = c.before.before.before.before
+module _ (c : tie.After-digits-end) where
+  abbrev digited : tie.After-digits-next
+  digited = c
 
-  place-room : (c.digits2.result ≤ 32) × (length c.digits2.new.1.1.0 ≡ length (start digited).args.out.now)
+  place-room : (c.digits-end.result ≤ 32) × (length c.digits-end.new.1.1.0 ≡ length (start digited).args.out.now)
   place-room =
-      let a = (start digited).args in let b = (worded digited).bytes in let d = digited.digits in let e = c.digits2 in
+      let a = (start digited).args in let b = (worded digited).bytes in let d = digited.digits in let e = c.digits-end in
       place-ends a.number b.result d.result a.out.now b.last.1.0 d.last.1.1.0 b.ensures d.ensures a.place e.result e.new.1.1.0 e.ensures
 
-  line-fed : (c.digits2.result + 1, set c.digits2.new.1.1.0 c.digits2.result 10) ≡ wrote 0 (refusal_line (start digited).args.number (start digited).args.place) (start digited).args.out.now
+  line-fed : (c.digits-end.result + 1, set c.digits-end.new.1.1.0 c.digits-end.result 10) ≡ wrote 0 (refusal_line (start digited).args.number (start digited).args.place) (start digited).args.out.now
   line-fed =
-      let s = start digited in let a = s.args in let b = (worded digited).bytes in let d = digited.digits in let e = c.digits2 in
+      let s = start digited in let a = s.args in let b = (worded digited).bytes in let d = digited.digits in let e = c.digits-end in
       fed a.number b.result d.result a.out.now b.last.1.0 d.last.1.1.0 b.ensures d.ensures a.place e.result e.new.1.1.0 e.ensures
       (omega (arith, s.fits.number.fits)) (omega (arith, s.fits.place.fits))
 
 -- ---- the needs
 
-slice-aggregate-bytes : tie.Need-slice-aggregate-bytes
+slice-aggregate-bytes : tie.Need-slice_bounds-bytes-end
 slice-aggregate-bytes c = search rules
 
-bytes-requires : tie.Need-bytes-requires
+bytes-requires : tie.Need-bytes-middle-requires
 bytes-requires c κs = search rules
 
-digits-requires : tie.Need-digits-requires
+digits-requires : tie.Need-digits-next-requires
 digits-requires c κs = let b = c.before.before.before in (omega arith, omega (arith, word-ends b, b.before.before.before.before.requires), omega (arith, word-ends b))
 
-slice-write-out : tie.Need-slice-write-out
+slice-write-out : tie.Need-bounds-out-next
 slice-write-out c = let d = c.before.before in omega (arith, number-room d, (start d).requires)
 
-add-digits : tie.Need-overflow-add-digits
+add-digits : tie.Need-overflow_add-next
 add-digits c = let d = c.before.before.before in record { fits = omega (arith, number-room d) }
 
-digits-requires-2 : tie.Need-digits-requires-2
+digits-requires-2 : tie.Need-digits-end-requires
 digits-requires-2 c κs = let d = c.before.before.before in (omega arith, simp length-set (omega (arith, number-room d, (start d).requires)), omega (arith, number-room d))
 
-slice-write-out-2 : tie.Need-slice-write-out-2
+slice-write-out-2 : tie.Need-bounds-out-end
 slice-write-out-2 c = let d = c.before.before in omega (arith, place-room d, (start (digited d)).pre)
 
-add-result : tie.Need-overflow-add-result
+add-result : tie.Need-overflow_add-result
 add-result c = record { fits = omega (arith, place-room c.before.before) }
 
-same_length : tie.Need-same-length
+same_length : tie.Need-shape_of-out
 same_length c = simp length-set (place-room c.before.before).1
 
 returns : tie.Need-returns
 returns c = let d = c.before.before in (line-fed d, omega (arith, place-room d))
 
-pub refusal-spec : {M : Type 1} → statement M
-refusal-spec =
+pub refusal_spec : {M : Type 1} → statement M
+refusal_spec =
     tie.close
     (tie.spec
     slice-aggregate-bytes

@@ -9,17 +9,17 @@ use Rattle.rules.proofs.scan.effect.Tie as tie
 effect-requires : tie.Need-effect-requires
 effect-requires c κs = search rules
 
-returns : tie.Need-returns
-returns c = let i = c.before in let a = i.before.args in c.effect.ensures ∙ byte-below a.b (effect_of a.mode a.b) 0 i.if1.true
+returns : tie.Need-returns-then-b-lt48
+returns c = let i = c.before in let a = i.before.args in c.effect.ensures ∙ byte-below a.b (effect_of a.mode a.b) 0 i.if-b-lt48.true
 
-effect-requires-2 : tie.Need-effect-requires-2
+effect-requires-2 : tie.Need-effect-requires-then-b-gt57
 effect-requires-2 c κs = search rules
 
-returns-2 : tie.Need-returns-2
-returns-2 c = let i = c.before in let a = i.before.before.args in c.effect2.ensures ∙ byte_above a.b (effect_of a.mode a.b) 0 i.if2.true
+returns-2 : tie.Need-returns-then-b-gt57
+returns-2 c = let i = c.before in let a = i.before.before.args in c.effect-then-b-gt57.ensures ∙ byte_above a.b (effect_of a.mode a.b) 0 i.if-b-gt57.true
 
-returns-3 : tie.Need-returns-3
-returns-3 c = let a = c.before.before.args in byte-digit a.b (effect_of a.mode a.b) 0 c.before.if1.false c.if2.false
+returns-3 : tie.Need-returns
+returns-3 c = let a = c.before.before.args in byte-digit a.b (effect_of a.mode a.b) 0 c.before.if-b-lt48.false c.if-b-gt57.false
 
-pub effect-spec : {M : Type 1} → statement M
-effect-spec = tie.close (tie.spec effect-requires returns effect-requires-2 returns-2 returns-3)
+pub effect_spec : {M : Type 1} → statement M
+effect_spec = tie.close (tie.spec effect-requires returns effect-requires-2 returns-2 returns-3)

@@ -5,7 +5,7 @@ use Rattle.rules.specs.Code.Scan.{reader_of}
 use Rattle.rules.proofs.scan.turn.Statement.{statement}
 use Rattle.rules.proofs.scan.turn.Tie as tie
 
-turn-mode-requires : tie.Need-turn-mode-requires
+turn-mode-requires : tie.Need-turn_mode-requires
 turn-mode-requires c κs = search rules
 
 returns : tie.Need-returns

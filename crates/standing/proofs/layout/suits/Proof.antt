@@ -21,93 +21,93 @@ use Rattle.standing.proofs.layout.suits.Tie as tie
 -- ---- what is known where nothing was found
 
 -- The columns are the query's.
-abbrev asked : tie.Else1 → tie.Start
+abbrev asked : tie.Else-not-agree → tie.Start
 asked c = c.before.before.before
 
-same-columns : (c : tie.Else1) → (asked c).args.view.columns ≡ (asked c).args.columns
-same-columns c = confirmed-by (not-false _ c.if1.false) c.before.agree.ensures
+same-columns : (c : tie.Else-not-agree) → (asked c).args.view.columns ≡ (asked c).args.columns
+same-columns c = confirmed-by (not-false _ c.if-not-agree.false) c.before.agree.ensures
 
 -- There are at most `max_rows` rows,
-abbrev agreed : tie.Else2 → tie.Else1
+abbrev agreed : tie.Else-count-gt-ROWS → tie.Else-not-agree
 agreed c = c.before.before.before
 
-abbrev list : tie.Else2 → View
+abbrev list : tie.Else-count-gt-ROWS → View
 list c = (asked (agreed c)).args.view
 
-abbrev columns : tie.Else2 → Columns
+abbrev columns : tie.Else-count-gt-ROWS → Columns
 columns c = (asked (agreed c)).args.columns
 
 -- each zero past its values,
-abbrev counted : tie.Else3 → tie.Else2
+abbrev counted : tie.Else-not-all_end → tie.Else-count-gt-ROWS
 counted c = c.before.before.before
 
-all-ended : (c : tie.Else3) → all_of (ends (columns (counted c)).count) (held_rows (list (counted c)).rows) ≡ true
-all-ended c = sym c.before.all-end.ensures ∙ not-false _ c.if3.false
+all-ended : (c : tie.Else-not-all_end) → all_of (ends (columns (counted c)).count) (held_rows (list (counted c)).rows) ≡ true
+all-ended c = sym c.before.all_end.ensures ∙ not-false _ c.if-not-all_end.false
 
 -- in order,
-abbrev ended : tie.Else4 → tie.Else3
+abbrev ended : tie.Else-not-all_ascend → tie.Else-not-all_end
 ended c = c.before.before.before
 
-all-ordered : (c : tie.Else4) → is-ascending row_below (held_rows (list (counted (ended c))).rows) ≡ true
-all-ordered c = sym c.before.all-ascend.ensures ∙ not-false _ c.if4.false
+all-ordered : (c : tie.Else-not-all_ascend) → is-ascending row_below (held_rows (list (counted (ended c))).rows) ≡ true
+all-ordered c = sym c.before.all_ascend.ensures ∙ not-false _ c.if-not-all_ascend.false
 
 -- and the rest zero.
-abbrev ordered : tie.Else5 → tie.Else4
+abbrev ordered : tie.Else-not-rest_zero → tie.Else-not-all_ascend
 ordered c = c.before.before.before
 
-abbrev held : tie.Else5 → tie.Else2
+abbrev held : tie.Else-not-rest_zero → tie.Else-count-gt-ROWS
 held c = counted (ended (ordered c))
 
-rest-is-zero : (c : tie.Else5) → all_of (ends 0) (unused_places (list (held c)).rows) ≡ true
-rest-is-zero c = sym c.before.rest-zero.ensures ∙ not-false _ c.if5.false
+rest-is-zero : (c : tie.Else-not-rest_zero) → all_of (ends 0) (unused_places (list (held c)).rows) ≡ true
+rest-is-zero c = sym c.before.rest_zero.ensures ∙ not-false _ c.if-not-rest_zero.false
 
 -- An endless list has no rows.
-no-rows-marked : (c : tie.Joined6) → ((list (held c.before)).endless && ltb 0 (list (held c.before)).rows.count) ≡ false
-no-rows-marked c = ⊎_elim (λ h i. h.0.taken i && h.1.left i) (λ h i. h.left i && ltb 0 (list (held c.before)).rows.count) c.if6.branch
+no-rows-marked : (c : tie.Joined-else-view) → ((list (held c.before)).endless && ltb 0 (list (held c.before)).rows.count) ≡ false
+no-rows-marked c = ⊎_elim (λ h i. h.0.taken i && h.1.left i) (λ h i. h.left i && ltb 0 (list (held c.before)).rows.count) c.else-view.branch
 
 -- ---- the needs
 
 agree-requires : tie.Need-agree-requires
 agree-requires c κs = search rules
 
-own-length : (c : tie.Then1) → length c.before.before.before.args.view.columns.variables ≡ 4
+own-length : (c : tie.Then-not-agree) → length c.before.before.before.args.view.columns.variables ≡ 4
 own-length c = search rules
 
-returns : tie.Need-returns
-returns c = suits-other c.before.before.before.args.view c.before.before.before.args.columns c.before.before.before.requires (own-length c) (refuted (not-true _ c.if1.true) c.before.agree.ensures)
+returns : tie.Need-returns-then-not-agree
+returns c = suits-other c.before.before.before.args.view c.before.before.before.args.columns c.before.before.before.requires (own-length c) (refuted (not-true _ c.if-not-agree.true) c.before.agree.ensures)
 
-returns-2 : tie.Need-returns-2
-returns-2 c = suits-many c.before.before.before.before.before.before.args.view c.before.before.before.before.before.before.args.columns c.before.before.before.before.before.before.requires (same-columns c.before.before.before) c.if2.true
+returns-2 : tie.Need-returns-then-count-gt-ROWS
+returns-2 c = suits-many c.before.before.before.before.before.before.args.view c.before.before.before.before.before.before.args.columns c.before.before.before.before.before.before.requires (same-columns c.before.before.before) c.if-count-gt-ROWS.true
 
-all-end-requires : tie.Need-all-end-requires
+all-end-requires : tie.Need-all_end-requires
 all-end-requires c κs = search rules
 
-returns-3 : tie.Need-returns-3
-returns-3 c = let t = c.before.before.before in suits-unended (list t) (columns t) (asked (agreed t)).requires (same-columns (agreed t)) t.if2.false (sym c.before.all-end.ensures ∙ not-true _ c.if3.true)
+returns-3 : tie.Need-returns-then-not-all_end
+returns-3 c = let t = c.before.before.before in suits-unended (list t) (columns t) (asked (agreed t)).requires (same-columns (agreed t)) t.if-count-gt-ROWS.false (sym c.before.all_end.ensures ∙ not-true _ c.if-not-all_end.true)
 
-all-ascend-requires : tie.Need-all-ascend-requires
+all-ascend-requires : tie.Need-all_ascend-requires
 all-ascend-requires c κs = search rules
 
-returns-4 : tie.Need-returns-4
-returns-4 c = let f = c.before.before.before in let t = counted f in suits-unordered (list t) (columns t) (asked (agreed t)).requires (same-columns (agreed t)) t.if2.left (all-ended f) (sym c.before.all-ascend.ensures ∙ not-true _ c.if4.true)
+returns-4 : tie.Need-returns-then-not-all_ascend
+returns-4 c = let f = c.before.before.before in let t = counted f in suits-unordered (list t) (columns t) (asked (agreed t)).requires (same-columns (agreed t)) t.if2.left (all-ended f) (sym c.before.all_ascend.ensures ∙ not-true _ c.if-not-all_ascend.true)
 
-rest-zero-requires : tie.Need-rest-zero-requires
+rest-zero-requires : tie.Need-rest_zero-requires
 rest-zero-requires c κs = search rules
 
-returns-5 : tie.Need-returns-5
-returns-5 c = let g = c.before.before.before in let t = counted (ended g) in suits-full (list t) (columns t) (asked (agreed t)).requires (same-columns (agreed t)) t.if2.left (all-ended (ended g)) (all-ordered g) (sym c.before.rest-zero.ensures ∙ not-true _ c.if5.true)
+returns-5 : tie.Need-returns-then-not-rest_zero
+returns-5 c = let g = c.before.before.before in let t = counted (ended g) in suits-full (list t) (columns t) (asked (agreed t)).requires (same-columns (agreed t)) t.if2.left (all-ended (ended g)) (all-ordered g) (sym c.before.rest_zero.ensures ∙ not-true _ c.if-not-rest_zero.true)
 
-returns-6 : tie.Need-returns-6
-returns-6 c = let g = c.before.before in let t = held g in suits-marked (list t) (columns t) (asked (agreed t)).requires (same-columns (agreed t)) t.if2.left (all-ended (ended (ordered g))) (all-ordered (ordered g)) (rest-is-zero g) (λ i. c.before.if6.true i && c.if7.true i)
+returns-6 : tie.Need-returns-then-count-gt0
+returns-6 c = let g = c.before.before in let t = held g in suits-marked (list t) (columns t) (asked (agreed t)).requires (same-columns (agreed t)) t.if2.left (all-ended (ended (ordered g))) (all-ordered (ordered g)) (rest-is-zero g) (λ i. c.before.if-view.true i && c.if-count-gt0.true i)
 
-add-up-requires : tie.Need-add-up-requires
+add-up-requires : tie.Need-add_up-requires
 add-up-requires c κs = search rules
 
-returns-7 : tie.Need-returns-7
-returns-7 c = let g = c.before.before in let t = held g in suits-balanced (list t) (columns t) (asked (agreed t)).requires (same-columns (agreed t)) t.if2.left (all-ended (ended (ordered g))) (all-ordered (ordered g)) (rest-is-zero g) (no-rows-marked c.before) c.add-up.ensures
+returns-7 : tie.Need-returns
+returns-7 c = let g = c.before.before in let t = held g in suits-balanced (list t) (columns t) (asked (agreed t)).requires (same-columns (agreed t)) t.if2.left (all-ended (ended (ordered g))) (all-ordered (ordered g)) (rest-is-zero g) (no-rows-marked c.before) c.add_up.ensures
 
-pub suits-spec : {M : Type 1} → statement M
-suits-spec =
+pub suits_spec : {M : Type 1} → statement M
+suits_spec =
     tie.close
     (tie.spec
     agree-requires

@@ -16,78 +16,78 @@ use Rattle.standing.proofs.Walking.{passed_on, found, found_none, found-sizes, f
 use Rattle.standing.proofs.places.only_in.Statement.{statement}
 use Rattle.standing.proofs.places.only_in.Tie as tie
 
-abbrev invariant-loop : tie.invariant-loop
+abbrev invariant-loop : tie.invariant-loop-i
 invariant-loop xs n ys m values₀ count₀ i₀ j₀ values count i j =
     (i ≤ n) × (count ≤ i) × (length values ≡ 4 * max_rows) × (i < n → Passed (take m (row_places ys)) j (row_at xs i)) × (rows_with values count ≡ stored (found xs i (take m (row_places ys))))
 
-abbrev decreases-loop : tie.decreases-loop
+abbrev decreases-loop : tie.decreases-loop-i
 decreases-loop xs n ys m values₀ count₀ i₀ j₀ values count i j = n - i
 
 -- The values lent are as many as the places.
 all-places : (s : tie.Start invariant-loop decreases-loop) → length s.args.values.now ≡ 4 * max_rows
 all-places s = ap length s.requires.2 ∙ length-replicate {A = ℕ} (4 * max_rows) 0
 
-loop-holds : tie.Need-loop-init invariant-loop decreases-loop
+loop-holds : tie.Need-loop-i-init invariant-loop decreases-loop
 loop-holds c =
     let s = c.before.args in
     (omega arith, omega arith, all-places c.before, λ h o l. absurd (omega arith), ap (λ vs. rows_with vs 0) c.before.requires.2 ∙ found_none s.xs.now (take s.m (row_places s.ys.now)))
 
-read-requires : tie.Need-read-requires invariant-loop decreases-loop
+read-requires : tie.Need-read-x-requires invariant-loop decreases-loop
 read-requires c κs = search rules
 
-skip-requires : tie.Need-skip-requires invariant-loop decreases-loop
+skip-requires : tie.Need-skip-j-requires invariant-loop decreases-loop
 skip-requires c κs =
-    let s = c.before.before.before.before in let l = c.before.before.loop in
-    (s.requires.1.0, subst⁻¹ (Passed (take s.args.m (row_places s.args.ys.now)) l.j) c.read.ensures (l.invariant.3 c.before.loop-test.true))
+    let s = c.before.before.before.before in let l = c.before.before.loop-i in
+    (s.requires.1.0, subst⁻¹ (Passed (take s.args.m (row_places s.args.ys.now)) l.j) c.read-x.ensures (l.invariant.3 c.before.loop-i-test.true))
 
 stands-requires : tie.Need-stands-requires invariant-loop decreases-loop
-stands-requires c κs = let s = c.before.before.before.before.before in (s.requires.1.0, s.requires.1.1, c.skip.ensures)
+stands-requires c κs = let s = c.before.before.before.before.before in (s.requires.1.0, s.requires.1.1, c.skip-j.ensures)
 
-mul-carry : tie.Need-overflow-mul-carry invariant-loop decreases-loop
+mul-carry : tie.Need-overflow_mul-i invariant-loop decreases-loop
 mul-carry c = search rules
 
-mul-carry-2 : tie.Need-overflow-mul-carry-2 invariant-loop decreases-loop
+mul-carry-2 : tie.Need-overflow_mul-count invariant-loop decreases-loop
 mul-carry-2 c = search rules
 
 carry-requires : tie.Need-carry-requires invariant-loop decreases-loop
 carry-requires c κs = search rules
 
-add-count : tie.Need-overflow-add-count invariant-loop decreases-loop
+add-count : tie.Need-overflow_add-count invariant-loop decreases-loop
 add-count c = search rules
 
-add-i : tie.Need-overflow-add-i invariant-loop decreases-loop
+add-i : tie.Need-overflow_add-i invariant-loop decreases-loop
 add-i c = search rules
 
-loop-less : tie.Need-loop-smaller invariant-loop decreases-loop
+loop-less : tie.Need-loop-i-smaller invariant-loop decreases-loop
 loop-less c = search rules
 
-loop-again : tie.Need-loop-preserved invariant-loop decreases-loop
+loop-again : tie.Need-loop-i-preserved invariant-loop decreases-loop
 loop-again c =
     let s = c.before.before.before.before.before.before.before in
     let xs = s.args.xs.now in let n = s.args.n in let ys = take s.args.m (row_places s.args.ys.now) in
-    let l = c.before.before.before.before.before.loop in let i = l.i in
-    let h = c.before.before.before.before.loop-test.true in
+    let l = c.before.before.before.before.before.loop-i in let i = l.i in
+    let h = c.before.before.before.before.loop-i-test.true in
     let few : i < max_rows = omega (arith, h, s.requires.0.0) in
-    let here = c.before.before.before.read.ensures in let p = c.before.before.skip in
+    let here = c.before.before.before.read-x.ensures in let p = c.before.before.skip-j in
     let told = tested (λ (x : Row). any_of (same_list x) ys) c.before.stands.ensures here in
-    let e : rows_with c.if1.values c.if1.count ≡ stored (found xs (i + 1) ys) =
+    let e : rows_with c.if-not-stands.values c.if-not-stands.count ≡ stored (found xs (i + 1) ys) =
     ⊎_elim
     (λ w. (λ q. rows_with ((w.6 ∙ w.3.ensures) q) (w.7 q)) ∙ found-written xs ys i few l.values l.count w.1.given.0 l.invariant.4 (told ∙ not-true _ w.0.taken))
     (λ w. (λ q. rows_with (w.1 q) (w.2 q)) ∙ l.invariant.4 ∙ ap stored (sym (found-without xs ys i few (told ∙ not-false _ w.0.left))))
-    c.if1.branch in
-    let z = found-sizes xs ys (i + 1) (omega (arith, few)) c.if1.values c.if1.count e in
+    c.if-not-stands.branch in
+    let z = found-sizes xs ys (i + 1) (omega (arith, few)) c.if-not-stands.values c.if-not-stands.count e in
     (omega arith, z.0, z.1, λ m. passed_on xs n s.requires.0.0 s.requires.0.1 ys i p.result m (subst (Passed ys p.result) here p.ensures.0), e)
 
-same_length : tie.Need-same-length invariant-loop decreases-loop
-same_length c = c.before.loop.invariant.2 ∙ sym (all-places c.before.before.before)
+same_length : tie.Need-shape_of-values invariant-loop decreases-loop
+same_length c = c.before.loop-i.invariant.2 ∙ sym (all-places c.before.before.before)
 
 returns : tie.Need-returns invariant-loop decreases-loop
 returns c =
-    let s = c.before.before.before.args in let l = c.before.loop in let e : l.i ≡ s.n = omega arith in
+    let s = c.before.before.before.args in let l = c.before.loop-i in let e : l.i ≡ s.n = omega arith in
     l.invariant.4 ∙ ap (λ k. stored (found s.xs.now k (take s.m (row_places s.ys.now)))) e
 
-pub only-in-spec : {M : Type 1} → statement M
-only-in-spec =
+pub only_in_spec : {M : Type 1} → statement M
+only_in_spec =
     tie.close
     (tie.spec
     invariant-loop

@@ -6,26 +6,26 @@ use Rattle.standing.proofs.Judging.{ends-fails, ends-holds}
 use Rattle.standing.proofs.row.ends.Statement.{statement}
 use Rattle.standing.proofs.row.ends.Tie as tie
 
-returns : tie.Need-returns
-returns c = let s = c.before.before.before.args in ends-fails s.k 0 (values_of s.x) (omega arith) c.if2.true
+returns : tie.Need-returns-then-x-ne0
+returns c = let s = c.before.before.before.args in ends-fails s.k 0 (values_of s.x) (omega arith) c.if-x-ne0.true
 
-returns-2 : tie.Need-returns-2
-returns-2 c = let s = c.before.before.before.before.args in ends-fails s.k 1 (values_of s.x) c.before.before.if3.true c.if4.true
+returns-2 : tie.Need-returns-then-x-ne0-2
+returns-2 c = let s = c.before.before.before.before.args in ends-fails s.k 1 (values_of s.x) c.before.before.if-k-le1.true c.if-x-ne0-2.true
 
-returns-3 : tie.Need-returns-3
-returns-3 c = let s = c.before.before.before.before.before.args in ends-fails s.k 2 (values_of s.x) c.before.before.if5.true c.if6.true
+returns-3 : tie.Need-returns-then-x-ne0-3
+returns-3 c = let s = c.before.before.before.before.before.args in ends-fails s.k 2 (values_of s.x) c.before.before.if-k-le2.true c.if-x-ne0-3.true
 
-returns-4 : tie.Need-returns-4
-returns-4 c = let s = c.before.before.before.before.before.before.args in ends-fails s.k 3 (values_of s.x) c.before.before.if7.true c.if8.true
+returns-4 : tie.Need-returns-then-x-ne0-4
+returns-4 c = let s = c.before.before.before.before.before.before.args in ends-fails s.k 3 (values_of s.x) c.before.before.if-k-le3.true c.if-x-ne0-4.true
 
-returns-5 : tie.Need-returns-5
+returns-5 : tie.Need-returns
 returns-5 c =
     let s = c.before.before.before.before.args in
     ends-holds s.k s.x
-    (⊎_elim (λ h l. h.2.left) (λ h l. absurd (omega arith)) c.before.before.before.if1.branch)
-    (⊎_elim (λ h l. h.2.left) (λ h l. absurd (omega arith)) c.before.before.if3.branch)
-    (⊎_elim (λ h l. h.2.left) (λ h l. absurd (omega arith)) c.before.if5.branch)
-    (⊎_elim (λ h l. h.2.left) (λ h l. absurd (omega arith)) c.if7.branch)
+    (⊎_elim (λ h l. h.2.left) (λ h l. absurd (omega arith)) c.before.before.before.else-k-eq0.branch)
+    (⊎_elim (λ h l. h.2.left) (λ h l. absurd (omega arith)) c.before.before.else-k-le1.branch)
+    (⊎_elim (λ h l. h.2.left) (λ h l. absurd (omega arith)) c.before.else-k-le2.branch)
+    (⊎_elim (λ h l. h.2.left) (λ h l. absurd (omega arith)) c.else-k-le3.branch)
 
-pub ends-spec : {M : Type 1} → statement M
-ends-spec = tie.close (tie.spec returns returns-2 returns-3 returns-4 returns-5)
+pub ends_spec : {M : Type 1} → statement M
+ends_spec = tie.close (tie.spec returns returns-2 returns-3 returns-4 returns-5)

@@ -11,7 +11,7 @@ use Rattle.tables.proofs.Laws.{found_none, found-place}
 use Rattle.tables.proofs.change.found_at.Statement.{statement}
 use Rattle.tables.proofs.change.found_at.Tie as tie
 
-returns : tie.Need-returns
+returns : tie.Need-returns-then-count-k
 returns c =
     let s = c.before in
     let rs = s.args.relations.now in let vs = s.args.values.now in let n = s.args.count in
@@ -23,13 +23,13 @@ read-requires c κs = search rules
 same-requires : tie.Need-same-requires
 same-requires c κs = search rules
 
-returns-2 : tie.Need-returns-2
+returns-2 : tie.Need-returns
 returns-2 c =
     let s = c.before.before.before in
     let rs = s.args.relations.now in let vs = s.args.values.now in let n = s.args.count in let r = s.args.r in
-    let here = getD-first rs vs n s.requires.0 s.args.k c.before.before.if1.false in
+    let here = getD-first rs vs n s.requires.0 s.args.k c.before.before.if-count-k.false in
     sym (tested (λ p. same_record p r) c.same.ensures (c.before.read.ensures ∙ sym here))
     ∙ found-place r (take n (places rs vs)) s.args.k s.requires.1 (omega (arith, length-first rs vs n s.requires.0))
 
-pub found-at-spec : {M : Type 1} → statement M
-found-at-spec = tie.close (tie.spec returns read-requires same-requires returns-2)
+pub found_at_spec : {M : Type 1} → statement M
+found_at_spec = tie.close (tie.spec returns read-requires same-requires returns-2)

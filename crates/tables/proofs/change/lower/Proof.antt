@@ -12,52 +12,52 @@ use Rattle.tables.proofs.Laws.{written, lower-turn, lower-end, store_is}
 use Rattle.tables.proofs.change.lower.Statement.{statement}
 use Rattle.tables.proofs.change.lower.Tie as tie
 
-abbrev invariant-loop : tie.invariant-loop
+abbrev invariant-loop : tie.invariant-loop-i
 invariant-loop k widths count relations₀ values₀ i₀ relations values i =
     (i ≤ 255)
     × (length relations ≡ capacity)
     × (length values ≡ 1024)
     × (remove-at (places relations values) i ≡ remove-at (places relations₀ values₀) k)
 
-abbrev decreases-loop : tie.decreases-loop
+abbrev decreases-loop : tie.decreases-loop-i
 decreases-loop k widths count relations₀ values₀ i₀ relations values i = 255 - i
 
-loop-holds : tie.Need-loop-init invariant-loop decreases-loop
+loop-holds : tie.Need-loop-i-init invariant-loop decreases-loop
 loop-holds c = (search rules, search rules, search rules, refl)
 
-add_read : tie.Need-overflow-add-read invariant-loop decreases-loop
+add_read : tie.Need-overflow_add-i invariant-loop decreases-loop
 add_read c = search rules
 
-read-requires : tie.Need-read-requires invariant-loop decreases-loop
+read-requires : tie.Need-read-next-requires invariant-loop decreases-loop
 read-requires c κs = search rules
 
 write-requires : tie.Need-write-requires invariant-loop decreases-loop
 write-requires c κs = search rules
 
-add-i : tie.Need-overflow-add-i invariant-loop decreases-loop
+add-i : tie.Need-overflow_add-i-in-loop-i invariant-loop decreases-loop
 add-i c = search rules
 
-loop-less : tie.Need-loop-smaller invariant-loop decreases-loop
+loop-less : tie.Need-loop-i-smaller invariant-loop decreases-loop
 loop-less c = search rules
 
-loop-again : tie.Need-loop-preserved invariant-loop decreases-loop
+loop-again : tie.Need-loop-i-preserved invariant-loop decreases-loop
 loop-again c =
-    let l = c.before.before.before.before.before.before.before.loop in
-    let rs = c.write.new.0 in let vs = c.write.new.1.0 in let next = c.before.before.before.read in
+    let l = c.before.before.before.before.before.before.before.loop-i in
+    let rs = c.write.new.0 in let vs = c.write.new.1.0 in let next = c.before.before.before.read-next in
     let w = written l.relations l.values l.i next.result rs vs (omega arith) l.invariant.1 l.invariant.2 c.write.ensures in
     (omega arith, w.relations_long, w.values_long, lower-turn l.relations l.values l.i next.result rs vs w (omega arith) next.ensures ∙ l.invariant.3)
 
 write-requires-2 : tie.Need-write-requires-2 invariant-loop decreases-loop
 write-requires-2 c κs = search rules
 
-sub-t22 : tie.Need-overflow-sub-t22 invariant-loop decreases-loop
+sub-t22 : tie.Need-overflow_sub-result invariant-loop decreases-loop
 sub-t22 c = search rules
 
 returns : tie.Need-returns invariant-loop decreases-loop
 returns c =
-    let a = c.before.before.before.before.before.before.before.before.args in let l = c.before.before.before.before.loop in
-    let rs = c.write2.new.0 in let vs = c.write2.new.1.0 in
-    let w = written l.relations l.values 255 blank rs vs (omega arith) l.invariant.1 l.invariant.2 c.write2.ensures in
+    let a = c.before.before.before.before.before.before.before.before.args in let l = c.before.before.before.before.loop-i in
+    let rs = c.write-2.new.0 in let vs = c.write-2.new.1.0 in
+    let w = written l.relations l.values 255 blank rs vs (omega arith) l.invariant.1 l.invariant.2 c.write-2.ensures in
     store_is rs vs w.relations_long w.values_long _ _ (lowered (places_of a.s) a.k)
     (lower-end l.relations l.values rs vs w l.i (places_of a.s) a.k (omega arith) l.invariant.3)
 

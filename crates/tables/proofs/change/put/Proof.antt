@@ -10,16 +10,16 @@ use Rattle.tables.proofs.change.put.Statement.{statement}
 use Rattle.tables.proofs.change.put.Tie as tie
 
 -- what is known where the store was not refused
-judged-done : (c : tie.After-enum-told) → judgement c.before.before.before.args.s ≡ Done
-judged-done c = sym c.before.before.judge.ensures ∙ c.enum_told.given.1
+judged-done : (c : tie.In-Done) → judgement c.before.before.before.args.s ≡ Done
+judged-done c = sym c.before.before.judge-judged.ensures ∙ c.enum_told-1.given.1
 
-judge-requires : tie.Need-judge-requires
+judge-requires : tie.Need-judge-judged-requires
 judge-requires c κs = search rules
 
-enum-known-judged : tie.Need-enum-known-judged
+enum-known-judged : tie.Need-enum_known-judged
 enum-known-judged c = search rules
 
-enum_told : tie.Need-enum-told
+enum_told : tie.Need-enum_told-1
 enum_told c = search rules
 
 insert-requires : tie.Need-insert-requires
@@ -27,12 +27,12 @@ insert-requires c κs =
     let s = c.before.before.before.args.s in
     (reflected (reflects-layout s) (judged-layout s (judged-done c)).1).count_fits
 
-returns : tie.Need-returns
+returns : tie.Need-returns-in-Refused
 returns c =
-    let a = c.before.before.before.before.args in let was = c.before.judged.given in
-    sym (put-judged a.s a.r was.0.0 was.0.1.0 (sym c.before.before.before.judge.ensures ∙ was.1))
+    let a = c.before.before.before.before.args in let was = c.before.judged-1.given in
+    sym (put-judged a.s a.r was.0.0 was.0.1.0 (sym c.before.before.before.judge-judged.ensures ∙ was.1))
 
-returns-2 : tie.Need-returns-2
+returns-2 : tie.Need-returns-in-Done
 returns-2 c =
     let a = c.before.before.before.before.args in let l = judged-layout a.s (judged-done c.before) in
     c.insert.ensures ∙ insertion-put a.s a.r l.0 l.1

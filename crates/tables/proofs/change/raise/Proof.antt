@@ -11,50 +11,50 @@ use Rattle.tables.proofs.Laws.{written, raise-turn, raise-end, store_is}
 use Rattle.tables.proofs.change.raise.Statement.{statement}
 use Rattle.tables.proofs.change.raise.Tie as tie
 
-abbrev invariant-loop : tie.invariant-loop
+abbrev invariant-loop : tie.invariant-loop-i
 invariant-loop k widths count relations₀ values₀ carried₀ i₀ relations values carried i =
     (i ≤ capacity)
     × (length relations ≡ capacity)
     × (length values ≡ 1024)
     × (insert-at (places relations values) i carried ≡ insert-at (places relations₀ values₀) k carried₀)
 
-abbrev decreases-loop : tie.decreases-loop
+abbrev decreases-loop : tie.decreases-loop-i
 decreases-loop k widths count relations₀ values₀ carried₀ i₀ relations values carried i = capacity - i
 
-loop-holds : tie.Need-loop-init invariant-loop decreases-loop
+loop-holds : tie.Need-loop-i-init invariant-loop decreases-loop
 loop-holds c = (search rules, search rules, search rules, refl)
 
-read-requires : tie.Need-read-requires invariant-loop decreases-loop
+read-requires : tie.Need-read-next-requires invariant-loop decreases-loop
 read-requires c κs = search rules
 
 write-requires : tie.Need-write-requires invariant-loop decreases-loop
 write-requires c κs = search rules
 
-add-i : tie.Need-overflow-add-i invariant-loop decreases-loop
+add-i : tie.Need-overflow_add-i invariant-loop decreases-loop
 add-i c = search rules
 
-loop-less : tie.Need-loop-smaller invariant-loop decreases-loop
+loop-less : tie.Need-loop-i-smaller invariant-loop decreases-loop
 loop-less c = search rules
 
-loop-again : tie.Need-loop-preserved invariant-loop decreases-loop
+loop-again : tie.Need-loop-i-preserved invariant-loop decreases-loop
 loop-again c =
-    let l = c.before.before.before.before.before.before.before.loop in
+    let l = c.before.before.before.before.before.before.before.loop-i in
     let rs = c.write.new.0 in let vs = c.write.new.1.0 in
     let w = written l.relations l.values l.i l.carried rs vs (omega arith) l.invariant.1 l.invariant.2 c.write.ensures in (
       omega arith,
       w.relations_long,
       w.values_long,
-      raise-turn l.relations l.values l.i l.carried rs vs w c.before.before.before.read.result (omega arith) c.before.before.before.read.ensures ∙ l.invariant.3,
+      raise-turn l.relations l.values l.i l.carried rs vs w c.before.before.before.read-next.result (omega arith) c.before.before.before.read-next.ensures ∙ l.invariant.3,
     )
 
-add-t19 : tie.Need-overflow-add-t19 invariant-loop decreases-loop
+add-t19 : tie.Need-overflow_add-result invariant-loop decreases-loop
 add-t19 c = search rules
 
 returns : tie.Need-returns invariant-loop decreases-loop
 returns c =
-    let a = c.before.before.before.before.before.args in let l = c.before.loop in
+    let a = c.before.before.before.before.before.args in let l = c.before.loop-i in
     store_is l.relations l.values l.invariant.1 l.invariant.2 _ _ (raised (places_of a.s) a.k a.r)
     (raise-end l.relations l.values l.i l.carried (places_of a.s) a.k a.r (omega arith) l.invariant.3)
 
-pub raise-spec : {M : Type 1} → statement M
-raise-spec = tie.close (tie.spec invariant-loop decreases-loop loop-holds read-requires write-requires add-i loop-less loop-again add-t19 returns)
+pub raise_spec : {M : Type 1} → statement M
+raise_spec = tie.close (tie.spec invariant-loop decreases-loop loop-holds read-requires write-requires add-i loop-less loop-again add-t19 returns)

@@ -6,18 +6,18 @@ use Rattle.tables.proofs.Laws.{beginning-refused, beginning-done}
 use Rattle.tables.proofs.fill.begin.Statement.{statement}
 use Rattle.tables.proofs.fill.begin.Tie as tie
 
-widths-are-right-requires : tie.Need-widths-are-right-requires
+widths-are-right-requires : tie.Need-widths_are_right-requires
 widths-are-right-requires c κs = search rules
 
 none-requires : tie.Need-none-requires
 none-requires c κs = search rules
 
-returns : tie.Need-returns
+returns : tie.Need-returns-then-not-widths_are_right
 returns c =
-    beginning-refused c.before.before.before.args.widths (sym c.before.before.widths-are-right.ensures ∙ not-true _ c.before.if1.true) c.none.result c.none.ensures
+    beginning-refused c.before.before.before.args.widths (sym c.before.before.widths_are_right.ensures ∙ not-true _ c.before.if-not-widths_are_right.true) c.none.result c.none.ensures
 
-returns-2 : tie.Need-returns-2
-returns-2 c = beginning-done c.before.before.args.widths (sym c.before.widths-are-right.ensures ∙ not-false _ c.if1.false)
+returns-2 : tie.Need-returns
+returns-2 c = beginning-done c.before.before.args.widths (sym c.before.widths_are_right.ensures ∙ not-false _ c.if-not-widths_are_right.false)
 
-pub begin-spec : {M : Type 1} → statement M
-begin-spec = tie.close (tie.spec widths-are-right-requires none-requires returns returns-2)
+pub begin_spec : {M : Type 1} → statement M
+begin_spec = tie.close (tie.spec widths-are-right-requires none-requires returns returns-2)

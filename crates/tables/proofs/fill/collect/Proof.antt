@@ -10,65 +10,65 @@ use Rattle.tables.proofs.fill.collect.Tie as tie
 abbrev offered : tie.Start → Record
 offered s = let a = s.args in record_of_parts a.relation a.first a.second a.third a.fourth
 
-enum_told : tie.Need-enum-told
+enum_told : tie.Need-enum_told-1
 enum_told c = search rules
 
-returns : tie.Need-returns
+returns : tie.Need-returns-in-Refused
 returns c =
-    let s = c.before.before.before in let was = c.enum_told.given in
+    let s = c.before.before.before in let was = c.enum_told-1.given in
     collected-refused s.args.f (offered s) was.0.0 was.0.1.0 was.1
 
-enum-told-2 : tie.Need-enum-told-2
+enum-told-2 : tie.Need-enum_told-in_default
 enum-told-2 c = search rules
 
 none-requires : tie.Need-none-requires
 none-requires c κs = search rules
 
-returns-2 : tie.Need-returns-2
+returns-2 : tie.Need-returns-then-count-gt-PLACES
 returns-2 c =
     let s = c.before.before.before.before.before in let e = c.before in
-    collected-over s.args.f (offered s) e.before.enum-told2.given.1 e.if1.true c.none.result c.none.ensures
+    collected-over s.args.f (offered s) e.before.enum_told-in_default-1.given.1 e.if-count-gt-PLACES.true c.none.result c.none.ensures
 
-insert-requires : tie.Need-insert-requires
-insert-requires c κs = c.if1.false
+insert-requires : tie.Need-insert-added-requires
+insert-requires c κs = c.if-count-gt-PLACES.false
 
-enum-told-3 : tie.Need-enum-told-3
+enum-told-3 : tie.Need-enum_told-in-Done
 enum-told-3 c = search rules
 
-enum-known-reply : tie.Need-enum-known-reply
+enum-known-reply : tie.Need-enum_known-reply
 enum-known-reply c = search rules
 
-returns-3 : tie.Need-returns-3
+returns-3 : tie.Need-returns-then-number-eq14
 returns-3 c =
-    let s = c.before.before.before.before.before.before.before.before.before in let e = c.before.before.before.before.before in let put = c.before.before.before.before.insert in let reply = c.before.before.reply.given in
-    collected-repeat s.args.f (offered s) e.before.enum-told2.given.1 e.if1.false put.result put.ensures reply.0.0 reply.0.1.0 reply.1 c.if2.true
+    let s = c.before.before.before.before.before.before.before.before.before in let e = c.before.before.before.before.before in let put = c.before.before.before.before.insert-added in let reply = c.before.before.reply-1.given in
+    collected-repeat s.args.f (offered s) e.before.enum_told-in_default-1.given.1 e.if-count-gt-PLACES.false put.result put.ensures reply.0.0 reply.0.1.0 reply.1 c.if-number-eq14.true
 
-none-requires-2 : tie.Need-none-requires-2
+none-requires-2 : tie.Need-none-requires-in-Refused-reply
 none-requires-2 c κs = search rules
 
-returns-4 : tie.Need-returns-4
+returns-4 : tie.Need-returns-in-Done
 returns-4 c =
-    let s = c.before.before.before.before.before.before.before in let e = c.before.before.before in let put = c.before.before.insert in
-    collected-put s.args.f (offered s) e.before.enum-told2.given.1 e.if1.false put.result put.ensures c.enum-told3.given.1
+    let s = c.before.before.before.before.before.before.before in let e = c.before.before.before in let put = c.before.before.insert-added in
+    collected-put s.args.f (offered s) e.before.enum_told-in_default-1.given.1 e.if-count-gt-PLACES.false put.result put.ensures c.enum_told-in-Done-1.given.1
 
-returns-5 : tie.Need-returns-5
+returns-5 : tie.Need-returns-else-number-eq14
 returns-5 c =
-    let s = c.before.before.before.before.before.before.before.before.before.before in let e = c.before.before.before.before.before.before in let put = c.before.before.before.before.before.insert in let reply = c.before.before.before.reply.given in
+    let s = c.before.before.before.before.before.before.before.before.before.before in let e = c.before.before.before.before.before.before in let put = c.before.before.before.before.before.insert-added in let reply = c.before.before.before.reply-1.given in
     collected-ended
     s.args.f
     (offered s)
-    e.before.enum-told2.given.1
-    e.if1.false
+    e.before.enum_told-in_default-1.given.1
+    e.if-count-gt-PLACES.false
     put.result
     put.ensures
     reply.0.0
     reply.0.1.0
     reply.1
-    c.before.if2.false
-    c.none2.result
-    c.none2.ensures
+    c.before.if-number-eq14.false
+    c.none-in-Refused-reply.result
+    c.none-in-Refused-reply.ensures
 
-pub collect-spec : {M : Type 1} → statement M
-collect-spec =
+pub collect_spec : {M : Type 1} → statement M
+collect_spec =
     tie.close
     (tie.spec enum_told returns enum-told-2 none-requires returns-2 insert-requires enum-told-3 enum-known-reply returns-3 none-requires-2 returns-4 returns-5)

@@ -3,13 +3,13 @@ use borrow.Author.Rules.{rules}
 use Rattle.tables.proofs.layout.highest.Statement.{statement}
 use Rattle.tables.proofs.layout.highest.Tie as tie
 
-top-requires : tie.Need-top-requires
+top-requires : tie.Need-top-second-requires
 top-requires c κs = search rules
 
-top-requires-2 : tie.Need-top-requires-2
+top-requires-2 : tie.Need-top-third-requires
 top-requires-2 c κs = search rules
 
-top-requires-3 : tie.Need-top-requires-3
+top-requires-3 : tie.Need-top-fourth-requires
 top-requires-3 c κs = search rules
 
 returns : tie.Need-returns
@@ -17,10 +17,10 @@ returns c = λ i.
     record {
       relation = c.before.before.before.args.relation;
       first = 4294967295;
-      second = c.before.before.top.ensures i;
-      third = c.before.top2.ensures i;
-      fourth = c.top3.ensures i;
+      second = c.before.before.top-second.ensures i;
+      third = c.before.top-third.ensures i;
+      fourth = c.top-fourth.ensures i;
     }
 
-pub highest-spec : {M : Type 1} → statement M
-highest-spec = tie.close (tie.spec top-requires top-requires-2 top-requires-3 returns)
+pub highest_spec : {M : Type 1} → statement M
+highest_spec = tie.close (tie.spec top-requires top-requires-2 top-requires-3 returns)

@@ -13,13 +13,13 @@ use Rattle.calculus.specs.Lists.Laws.{tested, all-stops, all-goes, all-ends}
 use Rattle.tables.proofs.layout.rest_blank.Statement.{statement}
 use Rattle.tables.proofs.layout.rest_blank.Tie as tie
 
-abbrev invariant-loop : tie.invariant-loop
+abbrev invariant-loop : tie.invariant-loop-i
 invariant-loop relations values count blank i₀ i = (i ≤ capacity) × (all_of is_blank (drop count (places relations values)) ≡ all_of is_blank (drop i (places relations values)))
 
-abbrev decreases-loop : tie.decreases-loop
+abbrev decreases-loop : tie.decreases-loop-i
 decreases-loop relations values count blank i₀ i = capacity - i
 
-loop-holds : tie.Need-loop-init invariant-loop decreases-loop
+loop-holds : tie.Need-loop-i-init invariant-loop decreases-loop
 loop-holds c = (c.requires, refl)
 
 read-requires : tie.Need-read-requires invariant-loop decreases-loop
@@ -28,35 +28,35 @@ read-requires c κs = search rules
 same-requires : tie.Need-same-requires invariant-loop decreases-loop
 same-requires c κs = search rules
 
-returns : tie.Need-returns invariant-loop decreases-loop
+returns : tie.Need-returns-then-not-same invariant-loop decreases-loop
 returns c =
     let s = c.before.before.before.before.before in
-    let rs = s.args.relations.now in let vs = s.args.values.now in let i = c.before.before.before.before.loop.i in
-    let here = getD-places rs vs i c.before.before.before.loop-test.true in
+    let rs = s.args.relations.now in let vs = s.args.values.now in let i = c.before.before.before.before.loop-i.i in
+    let here = getD-places rs vs i c.before.before.before.loop-i-test.true in
     sym
-    (c.before.before.before.before.loop.invariant.1
-    ∙ all-stops is_blank (places rs vs) i blank (omega (arith, length-places rs vs)) (tested is_blank c.before.same.ensures (c.before.before.read.ensures ∙ sym here) ∙ not-true _ c.if1.true))
+    (c.before.before.before.before.loop-i.invariant.1
+    ∙ all-stops is_blank (places rs vs) i blank (omega (arith, length-places rs vs)) (tested is_blank c.before.same.ensures (c.before.before.read.ensures ∙ sym here) ∙ not-true _ c.if-not-same.true))
 
-add-i : tie.Need-overflow-add-i invariant-loop decreases-loop
+add-i : tie.Need-overflow_add-i invariant-loop decreases-loop
 add-i c = search rules
 
-loop-less : tie.Need-loop-smaller invariant-loop decreases-loop
+loop-less : tie.Need-loop-i-smaller invariant-loop decreases-loop
 loop-less c = search rules
 
-loop-again : tie.Need-loop-preserved invariant-loop decreases-loop
+loop-again : tie.Need-loop-i-preserved invariant-loop decreases-loop
 loop-again c =
     let s = c.before.before.before.before.before in
-    let rs = s.args.relations.now in let vs = s.args.values.now in let i = c.before.before.before.before.loop.i in
-    let here = getD-places rs vs i c.before.before.before.loop-test.true in (
+    let rs = s.args.relations.now in let vs = s.args.values.now in let i = c.before.before.before.before.loop-i.i in
+    let here = getD-places rs vs i c.before.before.before.loop-i-test.true in (
       omega arith,
-      c.before.before.before.before.loop.invariant.1
-          ∙ all-goes is_blank (places rs vs) i blank (omega (arith, length-places rs vs)) (tested is_blank c.before.same.ensures (c.before.before.read.ensures ∙ sym here) ∙ not-false _ c.if1.false),
+      c.before.before.before.before.loop-i.invariant.1
+          ∙ all-goes is_blank (places rs vs) i blank (omega (arith, length-places rs vs)) (tested is_blank c.before.same.ensures (c.before.before.read.ensures ∙ sym here) ∙ not-false _ c.if-not-same.false),
     )
 
-returns-2 : tie.Need-returns-2 invariant-loop decreases-loop
+returns-2 : tie.Need-returns invariant-loop decreases-loop
 returns-2 c =
     let rs = c.before.before.args.relations.now in let vs = c.before.before.args.values.now in
-    sym (c.before.loop.invariant.1 ∙ all-ends is_blank (places rs vs) c.before.loop.i blank (omega (arith, length-places rs vs)))
+    sym (c.before.loop-i.invariant.1 ∙ all-ends is_blank (places rs vs) c.before.loop-i.i blank (omega (arith, length-places rs vs)))
 
-pub rest-blank-spec : {M : Type 1} → statement M
-rest-blank-spec = tie.close (tie.spec invariant-loop decreases-loop loop-holds read-requires same-requires returns add-i loop-less loop-again returns-2)
+pub rest_blank_spec : {M : Type 1} → statement M
+rest_blank_spec = tie.close (tie.spec invariant-loop decreases-loop loop-holds read-requires same-requires returns add-i loop-less loop-again returns-2)

@@ -213,9 +213,9 @@ eight-meets : {M : Type 1} {𝓤 : Ura M} (𝓛 : Logic 𝓤) → (at_mem : Memo
 eight-meets {𝓤 = 𝓤} 𝓛 at_mem run 𝓣 known = walk_Meets 𝓛 eight.ended stayed (goes 𝓛 at_mem run) (eight.clauses 𝓛 at_mem run) (WpFn 𝓤 𝓛.H 𝓣.C 𝓣.Λ code.function) (WpFn-mono 𝓤 𝓛.H 𝓛.laws 𝓣 code.function)
     (eight-walks 𝓛 at_mem run 𝓣.C 𝓣.Λ (fm_of 𝓤 𝓛.H 𝓛.laws 𝓣) known)
 
-pub fill-eight-spec : {M : Type 1} → stated.statement M
+pub fill_eight_spec : {M : Type 1} → stated.statement M
 unfolding code.routine tables_of
-fill-eight-spec 𝓤 𝓛 𝓜 𝓡 =
+fill_eight_spec 𝓤 𝓛 𝓜 𝓡 =
     entered 𝓤 𝓛.H (triple_of 𝓛 eight.signature (eight.spec 𝓛 𝓜.mem 𝓡.run))
     (tables 𝓤 𝓛.H 𝓜 𝓡 code.env).C (tables 𝓤 𝓛.H 𝓜 𝓡 code.env).Λ #trials·lend·fill-eight code.function (code.unfolded 𝓤 𝓛.H 𝓜 𝓡)
     (eight-meets 𝓛 𝓜.mem 𝓡.run (tables_of 𝓤 𝓛.H 𝓜 (tables 𝓤 𝓛.H 𝓜 𝓡 code.env))

@@ -15,69 +15,69 @@ use Rattle.trials.proofs.pair.Reads as Pair-reads
 use Rattle.trials.proofs.record_of.Reads as record-of-reads
 use Rattle.trials.proofs.runs.changed.Reads as changed-reads
 
-add-pair : tie.Need-overflow-add-pair
+add-pair : tie.Need-overflow_add-at
 add-pair c = search rules
 
-pair-requires : tie.Need-pair-requires
+pair-requires : tie.Need-pair-a-requires
 pair-requires c κs = search rules
 
-add-pair-2 : tie.Need-overflow-add-pair-2
+add-pair-2 : tie.Need-overflow_add-at-2
 add-pair-2 c = search rules
 
-pair-requires-2 : tie.Need-pair-requires-2
+pair-requires-2 : tie.Need-pair-b-requires
 pair-requires-2 c κs = search rules
 
-returns : tie.Need-returns
+returns : tie.Need-returns-then-a-gt-LENT
 returns c = search rules
 
-returns-2 : tie.Need-returns-2
+returns-2 : tie.Need-returns-then-b-gt-LENT
 returns-2 c = search rules
 
-lent-requires : tie.Need-lent-requires
+lent-requires : tie.Need-lent-first-requires
 lent-requires c κs = search rules
 
-lent-requires-2 : tie.Need-lent-requires-2
+lent-requires-2 : tie.Need-lent-second-requires
 lent-requires-2 c κs = search rules
 
 byte-requires : tie.Need-byte-requires
 byte-requires c κs = search rules
 
-add-record-of : tie.Need-overflow-add-record-of
+add-record-of : tie.Need-overflow_add-at-3
 add-record-of c = search rules
 
-record-of-requires : tie.Need-record-of-requires
+record-of-requires : tie.Need-record_of-requires
 record-of-requires c κs = search rules
 
-array-borrow-prefix-first : tie.Need-array-borrow-prefix-first
+array-borrow-prefix-first : tie.Need-slice_bounds-first-end
 array-borrow-prefix-first c = search rules
 
-slice-aggregate-changed : tie.Need-slice-aggregate-changed
+slice-aggregate-changed : tie.Need-slice_bounds-changed-end
 slice-aggregate-changed c =
     let b = c.before.before.before.before in
-    let room : ℕ = b.before.before.before.before.pair.result in
-    let l : length b.lent.result ≡ 8192 = search rules in
+    let room : ℕ = b.before.before.before.before.pair-a.result in
+    let l : length b.lent-first.result ≡ 8192 = search rules in
     let m : room ≤ 8192 = search rules in
-    sym (length-take-le room b.lent.result (omega (arith, l, m)))
+    sym (length-take-le room b.lent-first.result (omega (arith, l, m)))
 
-array-borrow-prefix-second : tie.Need-array-borrow-prefix-second
+array-borrow-prefix-second : tie.Need-slice_bounds-second-end
 array-borrow-prefix-second c = search rules
 
-slice-aggregate-changed-2 : tie.Need-slice-aggregate-changed-2
+slice-aggregate-changed-2 : tie.Need-slice_bounds-changed-end-2
 slice-aggregate-changed-2 c =
     let b = c.before.before.before.before in
-    let room : ℕ = b.before.before.before.before.pair2.result in
-    let l : length b.lent2.result ≡ 8192 = search rules in
+    let room : ℕ = b.before.before.before.before.pair-b.result in
+    let l : length b.lent-second.result ≡ 8192 = search rules in
     let m : room ≤ 8192 = search rules in
-    sym (length-take-le room b.lent2.result (omega (arith, l, m)))
+    sym (length-take-le room b.lent-second.result (omega (arith, l, m)))
 
 changed-requires : tie.Need-changed-requires
 changed-requires c κs = search rules
 
-returns-3 : tie.Need-returns-3
+returns-3 : tie.Need-returns
 returns-3 c = search rules
 
-pub call-spec : {M : Type 1} → statement M
-call-spec =
+pub call_spec : {M : Type 1} → statement M
+call_spec =
     tie.close
     (tie.spec
     add-pair

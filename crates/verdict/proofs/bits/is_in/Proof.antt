@@ -7,11 +7,11 @@ use Rattle.query.specs.Nodes.{nonzero}
 use Rattle.verdict.proofs.bits.is_in.Statement.{statement}
 use Rattle.verdict.proofs.bits.is_in.Tie as tie
 
-term-bit-requires : tie.Need-term-bit-requires
+term-bit-requires : tie.Need-term_bit-requires
 term-bit-requires c κs = search rules
 
 returns : tie.Need-returns
 returns c = ap (λ (b : ℕ). nonzero (bit_and c.before.args.set b)) c.term_bit.ensures
 
-pub is-in-spec : {M : Type 1} → statement M
-is-in-spec = tie.close (tie.spec term-bit-requires returns)
+pub is_in_spec : {M : Type 1} → statement M
+is_in_spec = tie.close (tie.spec term-bit-requires returns)

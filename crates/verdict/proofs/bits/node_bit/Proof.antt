@@ -22,19 +22,19 @@ at_each : {table : List ℕ} → table ≡ tabulate rule max_nodes → (n : ℕ)
 unfolding rule
 at_each test n h = ap (λ entries. get_or entries n 0) test ∙ get_d_tabulate rule max_nodes n 0 h ∙ sym (mask_one max_nodes n h)
 
-mul-result : tie.Need-overflow-mul-result
+mul-result : tie.Need-offset_bounds-n
 mul-result c = search rules
 
 array-read-result : tie.Need-array-read-result
 array-read-result c = search rules
 
 -- The test passes: the check computes the 64 values and compares them with the entries.
-returns : tie.Need-returns
+returns : tie.Need-returns-then-n-lt-NODES
 unfolding rule
-returns c = at_each refl c.before.args.n (search rules)
+returns c = at_each refl c.before.before.before.args.n (search rules)
 
-returns-2 : tie.Need-returns-2
+returns-2 : tie.Need-returns
 returns-2 c = sym (mask-past max_nodes c.before.args.n (search rules))
 
-pub node-bit-spec : {M : Type 1} → statement M
-node-bit-spec = tie.close (tie.spec mul-result array-read-result returns returns-2)
+pub node_bit_spec : {M : Type 1} → statement M
+node_bit_spec = tie.close (tie.spec mul-result array-read-result returns returns-2)

@@ -8,20 +8,20 @@ use Rattle.verdict.specs.Bits.Laws.{mask_one, mask-past, bits_small}
 use Rattle.verdict.proofs.bits.term_bit.Statement.{statement}
 use Rattle.verdict.proofs.bits.term_bit.Tie as tie
 
-sub-result : tie.Need-overflow-sub-result
+sub-result : tie.Need-overflow_sub-result
 sub-result c = search rules
 
-cast-result : tie.Need-overflow-cast-result
+cast-result : tie.Need-overflow_cast-result
 cast-result c = search rules
 
-shl-result : tie.Need-overflow-shl-result
+shl-result : tie.Need-overflow_shl-result
 shl-result c = search rules
 
-returns : tie.Need-returns
-returns c = let t = c.before.args.t in omega (arith, mask_one 16 t c.if1.true, bits_small (λ m. member m (t ∷ [])) 16)
+returns : tie.Need-returns-then-t-lt16
+returns c = let t = c.before.args.t in omega (arith, mask_one 16 t c.if-t-lt16.true, bits_small (λ m. member m (t ∷ [])) 16)
 
-returns-2 : tie.Need-returns-2
-returns-2 c = sym (mask-past 16 c.before.args.t c.if1.false)
+returns-2 : tie.Need-returns
+returns-2 c = sym (mask-past 16 c.before.args.t c.if-t-lt16.false)
 
-pub term-bit-spec : {M : Type 1} → statement M
-term-bit-spec = tie.close (tie.spec sub-result cast-result shl-result returns returns-2)
+pub term_bit_spec : {M : Type 1} → statement M
+term_bit_spec = tie.close (tie.spec sub-result cast-result shl-result returns returns-2)

@@ -50,34 +50,34 @@ abbrev task : (t : ℕ) (s : propagate-lts.Start (propagate-claims t) (propagate
 task t s = record { inside = s.requires.1.0.0; room = s.requires.1.0.1; zeros = s.requires.1.1 }
 
 -- Where the fields are read: the start, and the node.
-abbrev begun : (t : ℕ) → propagate-lts.After-fields (propagate-claims t) (propagate-at t) propagate.Post → propagate-lts.Start (propagate-claims t) (propagate-at t) propagate.Post
+abbrev begun : (t : ℕ) → propagate-lts.After-fields-f (propagate-claims t) (propagate-at t) propagate.Post → propagate-lts.Start (propagate-claims t) (propagate-at t) propagate.Post
 begun t c = c.before.before.before
 
-node : (t : ℕ) (c : propagate-lts.After-fields (propagate-claims t) (propagate-at t) propagate.Post) → NodeOf (get_or (begun t c).args.nodes.now (begun t c).args.i 0) c.fields.result
-node t c = c.fields.ensures
+node : (t : ℕ) (c : propagate-lts.After-fields-f (propagate-claims t) (propagate-at t) propagate.Post) → NodeOf (get_or (begun t c).args.nodes.now (begun t c).args.i 0) c.fields.result
+node t c = c.fields-f.ensures
 
 -- An and or an or.
-join-of : (t : ℕ) (c : propagate-lts.Then2 (propagate-claims t) (propagate-at t) propagate.Post) → let s = begun t c.before.before.before in (u : Bool) × (kind (get_or s.args.nodes.now s.args.i 0) ≡ join_kind u)
+join-of : (t : ℕ) (c : propagate-lts.In-4 (propagate-claims t) (propagate-at t) propagate.Post) → let s = begun t c.before.before.before in (u : Bool) × (kind (get_or s.args.nodes.now s.args.i 0) ≡ join_kind u)
 join-of t c =
     let f = c.before.before.before in let s = begun t f in let k = ap (λ g. g.kind) (node t f).reads in
     join_kind-of (kind (get_or s.args.nodes.now s.args.i 0)) (omega (arith, k)) (omega (arith, k))
 
 -- Its left subtree is written, up to `middle`.
-module _ (t : ℕ) (c : propagate-lts.After-propagate3 (propagate-claims t) (propagate-at t) propagate.Post) where
+module _ (t : ℕ) (c : propagate-lts.After-propagate-middle (propagate-claims t) (propagate-at t) propagate.Post) where
   abbrev start : propagate-lts.Start (propagate-claims t) (propagate-at t) propagate.Post
-  start = c.before.before.before.before.before.before.before.before
+  start = c
 
-  abbrev read : NodeOf (get_or start.args.nodes.now start.args.i 0) c.before.before.before.before.before.fields.result
+  abbrev read : NodeOf (get_or start.args.nodes.now start.args.i 0) c.before.before.before.before.before.fields-f.result
   read = node t c.before.before.before.before.before
 
   abbrev word : ℕ
   word = get_or start.args.nodes.now start.args.i 0
 
   abbrev now : List ℕ
-  now = c.propagate3.new.1.1.0
+  now = c.propagate-middle.new.1.1.0
 
   abbrev middle : ℕ
-  middle = c.propagate3.result
+  middle = c.propagate-middle.result
 
   abbrev unit : Bool
   unit = (join-of t c.before.before).0
@@ -86,7 +86,7 @@ module _ (t : ℕ) (c : propagate-lts.After-propagate3 (propagate-claims t) (pro
   is_join = (join-of t c.before.before).1
 
   left-written : Done start.args.nodes.now (left word) start.args.out.now start.args.at (middle, now)
-  left-written = rw read.reads at c.propagate3.ensures
+  left-written = rw read.reads at c.propagate-middle.ensures
 
   abbrev left_grown : Grown start.args.out.now start.args.at (formula_at start.args.nodes.now (left word)) now middle
   left_grown = child-grown (task t start) (left word) left-written
@@ -94,13 +94,13 @@ module _ (t : ℕ) (c : propagate-lts.After-propagate3 (propagate-claims t) (pro
   middle-below : middle < max_nodes
   middle-below = omega (arith, left_grown.short, (left-asks (task t start) unit is_join).room)
 
-propagate-mul-w : (t : ℕ) → propagate-lts.Need-overflow-mul-w (propagate-claims t) (propagate-at t) propagate.Post
+propagate-mul-w : (t : ℕ) → propagate-lts.Need-offset_bounds-all-i (propagate-claims t) (propagate-at t) propagate.Post
 propagate-mul-w t c = search rules
 
-propagate-shared-slice-read-w : (t : ℕ) → propagate-lts.Need-shared-slice-read-w (propagate-claims t) (propagate-at t) propagate.Post
+propagate-shared-slice-read-w : (t : ℕ) → propagate-lts.Need-bounds-all-i (propagate-claims t) (propagate-at t) propagate.Post
 propagate-shared-slice-read-w t c = search rules
 
-propagate-fields-requires : (t : ℕ) → propagate-lts.Need-fields-requires (propagate-claims t) (propagate-at t) propagate.Post
+propagate-fields-requires : (t : ℕ) → propagate-lts.Need-fields-f-requires (propagate-claims t) (propagate-at t) propagate.Post
 propagate-fields-requires t c κs = search rules
 
 propagate-equality-requires : (t : ℕ) → propagate-lts.Need-equality-requires (propagate-claims t) (propagate-at t) propagate.Post
@@ -110,128 +110,128 @@ propagate-push-requires : (t : ℕ) → propagate-lts.Need-push-requires (propag
 propagate-push-requires t c κs =
     let s = begun t c.before.before.before in (at-below (task t s), s.pre.1.1)
 
-propagate-propagate-requires : (t : ℕ) → propagate-lts.Need-propagate-requires (propagate-claims t) (propagate-at t) propagate.Post
+propagate-propagate-requires : (t : ℕ) → propagate-lts.Need-propagate-end-requires (propagate-claims t) (propagate-at t) propagate.Post
 propagate-propagate-requires t c κs =
     let f = c.before.before in let s = begun t f in let n = node t f in
-    rw n.reads (child-asks s.pre.0 (not-asks (task t s) (kind-read n c.before.match.keys2)) s.pre.1.1)
+    rw n.reads (child-asks s.pre.0 (not-asks (task t s) (kind-read n c.before.in-3.keys2)) s.pre.1.1)
 
 propagate-negate-requires : (t : ℕ) → propagate-lts.Need-negate-requires (propagate-claims t) (propagate-at t) propagate.Post
 propagate-negate-requires t c κs =
     let f = c.before.before.before.before in let s = begun t f in let n = node t f in let w = get_or s.args.nodes.now s.args.i 0 in
-    let a = not-asks (task t s) (kind-read n c.before.before.before.match.keys2) in let g = child-grown (task t s) (left w) (rw n.reads at c.before.propagate.ensures) in
+    let a = not-asks (task t s) (kind-read n c.before.before.before.in-3.keys2) in let g = child-grown (task t s) (left w) (rw n.reads at c.before.propagate-end.ensures) in
     (omega (arith, g.longer), omega (arith, g.short, a.room), g.again)
 
-propagate-propagate-requires-2 : (t : ℕ) → propagate-lts.Need-propagate-requires-2 (propagate-claims t) (propagate-at t) propagate.Post
+propagate-propagate-requires-2 : (t : ℕ) → propagate-lts.Need-propagate-end-requires-in-6 (propagate-claims t) (propagate-at t) propagate.Post
 propagate-propagate-requires-2 t c κs =
     let f = c.before.before in let s = begun t f in let n = node t f in
-    rw n.reads (child-asks s.pre.0 (exists-asks (task t s) (kind-read n c.before.match.keys3)) s.pre.1.1)
+    rw n.reads (child-asks s.pre.0 (exists-asks (task t s) (kind-read n c.before.in-6.keys3)) s.pre.1.1)
 
 propagate-quantify-requires : (t : ℕ) → propagate-lts.Need-quantify-requires (propagate-claims t) (propagate-at t) propagate.Post
 propagate-quantify-requires t c κs =
     let f = c.before.before.before.before in let s = begun t f in let n = node t f in let w = get_or s.args.nodes.now s.args.i 0 in
-    let a = exists-asks (task t s) (kind-read n c.before.before.before.match.keys3) in let g = child-grown (task t s) (under w) (rw n.reads at c.before.propagate2.ensures) in
+    let a = exists-asks (task t s) (kind-read n c.before.before.before.in-6.keys3) in let g = child-grown (task t s) (under w) (rw n.reads at c.before.propagate-end-in-6.ensures) in
     (omega (arith, g.longer), omega (arith, g.short, a.room), n.variable_fits, g.again)
 
-propagate-propagate-requires-3 : (t : ℕ) → propagate-lts.Need-propagate-requires-3 (propagate-claims t) (propagate-at t) propagate.Post
+propagate-propagate-requires-3 : (t : ℕ) → propagate-lts.Need-propagate-middle-requires (propagate-claims t) (propagate-at t) propagate.Post
 propagate-propagate-requires-3 t c κs =
     let f = c.before.before.before.before in let s = begun t f in let u = join-of t c.before in
     rw (node t f).reads (child-asks s.pre.0 (left-asks (task t s) u.0 u.1) s.pre.1.1)
 
-propagate-sub-first : (t : ℕ) → propagate-lts.Need-overflow-sub-first (propagate-claims t) (propagate-at t) propagate.Post
+propagate-sub-first : (t : ℕ) → propagate-lts.Need-overflow_sub-first (propagate-claims t) (propagate-at t) propagate.Post
 propagate-sub-first t c = omega (arith, (left_grown t c).longer)
 
-propagate-mul-first : (t : ℕ) → propagate-lts.Need-overflow-mul-first (propagate-claims t) (propagate-at t) propagate.Post
+propagate-mul-first : (t : ℕ) → propagate-lts.Need-offset_bounds-out-middle (propagate-claims t) (propagate-at t) propagate.Post
 propagate-mul-first t c = record { fits = omega (arith, middle-below t c) }
 
-propagate-element-copy-out-first : (t : ℕ) → propagate-lts.Need-element-copy-out-first (propagate-claims t) (propagate-at t) propagate.Post
+propagate-element-copy-out-first : (t : ℕ) → propagate-lts.Need-bounds-out-middle (propagate-claims t) (propagate-at t) propagate.Post
 propagate-element-copy-out-first t c = omega (arith, middle-below t c)
 
-propagate-fields-requires-2 : (t : ℕ) → propagate-lts.Need-fields-requires-2 (propagate-claims t) (propagate-at t) propagate.Post
+propagate-fields-requires-2 : (t : ℕ) → propagate-lts.Need-fields-top-requires (propagate-claims t) (propagate-at t) propagate.Post
 propagate-fields-requires-2 t c κs = search rules
 
 propagate-unit-requires : (t : ℕ) → propagate-lts.Need-unit-requires (propagate-claims t) (propagate-at t) propagate.Post
 propagate-unit-requires t c κs = search rules
 
 -- Where the left subtree is a truth value: its last word.
-first-truth : (t : ℕ) (c : propagate-lts.Then3 (propagate-claims t) (propagate-at t) propagate.Post) → kind (get_or (now t c.before.before.before) (middle t c.before.before.before - 1) 0) ≡ 0
-first-truth t c = kind-read c.before.fields2.ensures c.if3.true
+first-truth : (t : ℕ) (c : propagate-lts.Then-top_kind-eq0 (propagate-claims t) (propagate-at t) propagate.Post) → kind (get_or (now t c.before.before.before) (middle t c.before.before.before - 1) 0) ≡ 0
+first-truth t c = kind-read c.before.fields-top.ensures c.if-top_kind-eq0.true
 
 -- The truth value that the node drops.
 dropped : (t : ℕ) (c : propagate-lts.After-unit (propagate-claims t) (propagate-at t) propagate.Post) → c.unit.result ≡ unit_word (kind (word t c.before.before.before.before))
-dropped t c = rw (read t c.before.before.before.before).reads at c.unit.ensures
+dropped t c = rw (read t c.before.before.before.before.before).reads at c.unit.ensures
 
-propagate-returns : (t : ℕ) → propagate-lts.Need-returns (propagate-claims t) (propagate-at t) propagate.Post
+propagate-returns : (t : ℕ) → propagate-lts.Need-returns-then-first-unit (propagate-claims t) (propagate-at t) propagate.Post
 propagate-returns t c =
     let d = c.before.before.before.before.before in let s = start t d in let k = task t s in
-    left-done k (unit t d) (is_join t d) (now t d) (middle t d) (left-written t d) (first-truth t c.before.before) (λ e. c.if4.true (e ∙ sym (dropped t c.before)))
+    left-done k (unit t d) (is_join t d) (now t d) (middle t d) (left-written t d) (first-truth t c.before.before) (λ e. c.if-first-unit.true (e ∙ sym (dropped t c.before)))
 
-propagate-mul-out : (t : ℕ) → propagate-lts.Need-overflow-mul-out (propagate-claims t) (propagate-at t) propagate.Post
-propagate-mul-out t c = record { fits = omega (arith, at-below (task t (start t c.before.before.before.before.before))) }
+propagate-mul-out : (t : ℕ) → propagate-lts.Need-offset_bounds-out-at (propagate-claims t) (propagate-at t) propagate.Post
+propagate-mul-out t c = record { fits = omega (arith, at-below (task t (start t c.before.before.before.before.before.before))) }
 
-propagate-element-write-out : (t : ℕ) → propagate-lts.Need-element-write-out (propagate-claims t) (propagate-at t) propagate.Post
-propagate-element-write-out t c = at-below (task t (start t c.before.before.before.before.before))
+propagate-element-write-out : (t : ℕ) → propagate-lts.Need-bounds-out-at (propagate-claims t) (propagate-at t) propagate.Post
+propagate-element-write-out t c = at-below (task t (start t c.before.before.before.before.before.before))
 
-propagate-propagate-requires-4 : (t : ℕ) → propagate-lts.Need-propagate-requires-4 (propagate-claims t) (propagate-at t) propagate.Post
+propagate-propagate-requires-4 : (t : ℕ) → propagate-lts.Need-propagate-requires (propagate-claims t) (propagate-at t) propagate.Post
 propagate-propagate-requires-4 t c κs =
     let d = c.before.before.before.before.before.before in let s = start t d in let k = task t s in
     rw (read t d).reads
     (child-asks s.pre.0 (right-asks k (unit t d) (is_join t d) s.args.at (omega arith))
-    (cleared-zeros k (unit t d) (is_join t d) (now t d) (middle t d) (left-written t d) (first-truth t c.before.before.before) (c.before.if4.false ∙ dropped t c.before.before)))
+    (cleared-zeros k (unit t d) (is_join t d) (now t d) (middle t d) (left-written t d) (first-truth t c.before.before.before) (c.before.if-first-unit.false ∙ dropped t c.before.before)))
 
-propagate-returns-2 : (t : ℕ) → propagate-lts.Need-returns-2 (propagate-claims t) (propagate-at t) propagate.Post
+propagate-returns-2 : (t : ℕ) → propagate-lts.Need-returns-then-top_kind-eq0 (propagate-claims t) (propagate-at t) propagate.Post
 propagate-returns-2 t c =
     let d = c.before.before.before.before.before.before.before in let s = start t d in let k = task t s in
-    right-done k (unit t d) (is_join t d) (now t d) (middle t d) (left-written t d) (first-truth t c.before.before.before.before) (c.before.before.if4.false ∙ dropped t c.before.before.before) (rw (read t d).reads at c.propagate4.ensures)
+    right-done k (unit t d) (is_join t d) (now t d) (middle t d) (left-written t d) (first-truth t c.before.before.before.before) (c.before.before.if-first-unit.false ∙ dropped t c.before.before.before) (rw (read t d).reads at c.propagate.ensures)
 
-propagate-propagate-requires-5 : (t : ℕ) → propagate-lts.Need-propagate-requires-5 (propagate-claims t) (propagate-at t) propagate.Post
+propagate-propagate-requires-5 : (t : ℕ) → propagate-lts.Need-propagate-end-requires-in-4 (propagate-claims t) (propagate-at t) propagate.Post
 propagate-propagate-requires-5 t c κs =
     let d = c.before.before.before.before in let s = start t d in let k = task t s in
     rw (read t d).reads (child-asks s.pre.0 (right-asks k (unit t d) (is_join t d) (middle t d) (left_grown t d).short) (left_grown t d).again)
 
 -- Both subtrees are written.
-right-written : (t : ℕ) (c : propagate-lts.After-propagate5 (propagate-claims t) (propagate-at t) propagate.Post) → let d = c.before.before.before.before.before in Done (start t d).args.nodes.now (right (word t d)) (now t d) (middle t d) (c.propagate5.result, c.propagate5.new.1.1.0)
-right-written t c = rw (read t c.before.before.before.before.before).reads at c.propagate5.ensures
+right-written : (t : ℕ) (c : propagate-lts.After-propagate-end-in-4 (propagate-claims t) (propagate-at t) propagate.Post) → let d = c.before.before.before.before.before in Done (start t d).args.nodes.now (right (word t d)) (now t d) (middle t d) (c.propagate-end-in-4.result, c.propagate-end-in-4.new.1.1.0)
+right-written t c = rw (read t c.before.before.before.before.before.before).reads at c.propagate-end-in-4.ensures
 
 propagate-join-requires : (t : ℕ) → propagate-lts.Need-join-requires (propagate-claims t) (propagate-at t) propagate.Post
 propagate-join-requires t c κs =
     let d = c.before.before.before.before.before.before in let s = start t d in let k = task t s in
-    let g = both-grown k (unit t d) (is_join t d) (now t d) (middle t d) (left-written t d) c.before.propagate5.new.1.1.0 c.before.propagate5.result (right-written t c.before) in
+    let g = both-grown k (unit t d) (is_join t d) (now t d) (middle t d) (left-written t d) c.before.propagate-end-in-4.new.1.1.0 c.before.propagate-end-in-4.result (right-written t c.before) in
     let a = right-asks k (unit t d) (is_join t d) (middle t d) (left_grown t d).short in
     ((omega arith, omega arith, (left_grown t d).longer, g.longer, omega (arith, g.short, a.room)), g.again)
 
-propagate-push-requires-2 : (t : ℕ) → propagate-lts.Need-push-requires-2 (propagate-claims t) (propagate-at t) propagate.Post
+propagate-push-requires-2 : (t : ℕ) → propagate-lts.Need-push-requires-in_default (propagate-claims t) (propagate-at t) propagate.Post
 propagate-push-requires-2 t c κs =
     let s = begun t c.before.before.before in (at-below (task t s), s.pre.1.1)
 
-propagate-returns-3 : (t : ℕ) → propagate-lts.Need-returns-3 (propagate-claims t) (propagate-at t) propagate.Post
+propagate-returns-3 : (t : ℕ) → propagate-lts.Need-returns-in-2 (propagate-claims t) (propagate-at t) propagate.Post
 propagate-returns-3 t c =
     let f = c.before.before.before.before in
-    equality-done (task t (begun t f)) (kind-read (node t f) c.before.before.before.match.keys1) c.before.equality.ensures c.push.ensures
+    equality-done (task t (begun t f)) (kind-read (node t f) c.before.before.before.in-2.keys1) c.before.equality.ensures c.push.ensures
 
-propagate-returns-4 : (t : ℕ) → propagate-lts.Need-returns-4 (propagate-claims t) (propagate-at t) propagate.Post
+propagate-returns-4 : (t : ℕ) → propagate-lts.Need-returns-in-3 (propagate-claims t) (propagate-at t) propagate.Post
 propagate-returns-4 t c =
     let f = c.before.before.before.before.before in let n = node t f in
-    not_done (task t (begun t f)) (kind-read n c.before.before.before.before.match.keys2) (rw n.reads at c.before.before.propagate.ensures) c.negate.ensures
+    not_done (task t (begun t f)) (kind-read n c.before.before.before.before.in-3.keys2) (rw n.reads at c.before.before.propagate-end.ensures) c.negate.ensures
 
-propagate-returns-5 : (t : ℕ) → propagate-lts.Need-returns-5 (propagate-claims t) (propagate-at t) propagate.Post
+propagate-returns-5 : (t : ℕ) → propagate-lts.Need-returns-in-6 (propagate-claims t) (propagate-at t) propagate.Post
 propagate-returns-5 t c =
     let f = c.before.before.before.before.before in let n = node t f in
-    exists-done (task t (begun t f)) (kind-read n c.before.before.before.before.match.keys3) (rw n.reads at c.before.before.propagate2.ensures) (rw n.reads at c.quantify.ensures)
+    exists-done (task t (begun t f)) (kind-read n c.before.before.before.before.in-6.keys3) (rw n.reads at c.before.before.propagate-end-in-6.ensures) (rw n.reads at c.quantify.ensures)
 
-propagate-returns-6 : (t : ℕ) → propagate-lts.Need-returns-6 (propagate-claims t) (propagate-at t) propagate.Post
+propagate-returns-6 : (t : ℕ) → propagate-lts.Need-returns-else-top_kind-eq0 (propagate-claims t) (propagate-at t) propagate.Post
 propagate-returns-6 t c =
     let d = c.before.before.before.before.before.before.before in let k = task t (start t d) in
-    join-done k (unit t d) (is_join t d) (now t d) (middle t d) (left-written t d) (kind-not-read c.before.before.before.before.before.fields2.ensures c.before.before.before.before.if3.false) c.before.before.propagate5.new.1.1.0 c.before.before.propagate5.result (right-written t c.before.before) (rw (read t d).reads at c.join.ensures)
+    join-done k (unit t d) (is_join t d) (now t d) (middle t d) (left-written t d) (kind-not-read c.before.before.before.before.before.fields-top.ensures c.before.before.before.before.if-top_kind-eq0.false) c.before.before.propagate-end-in-4.new.1.1.0 c.before.before.propagate-end-in-4.result (right-written t c.before.before) (rw (read t d).reads at c.join.ensures)
 
-propagate-returns-7 : (t : ℕ) → propagate-lts.Need-returns-7 (propagate-claims t) (propagate-at t) propagate.Post
+propagate-returns-7 : (t : ℕ) → propagate-lts.Need-returns-in_default (propagate-claims t) (propagate-at t) propagate.Post
 propagate-returns-7 t c =
-    let f = c.before.before.before.before in let s = begun t f in let r = c.before.before.before.match.rest in let k = ap (λ g. g.kind) (node t f).reads in
+    let f = c.before.before.before.before in let s = begun t f in let r = c.before.before.before.in_default-1.rest in let k = ap (λ g. g.kind) (node t f).reads in
     leaf-done (task t s)
-    (⊎_elim (λ f. omega (arith, k, f.taken, r.0.0.1, r.0.1)) (λ f. omega (arith, k, f.1.left, r.1, node-kind (task t s))) c.before.before.if1.branch)
-    c.push2.ensures
+    (⊎_elim (λ f. omega (arith, k, f.taken, r.0.0.1, r.0.1)) (λ f. omega (arith, k, f.1.left, r.1, node-kind (task t s))) c.before.before.in_default.branch)
+    c.push-in_default.ensures
 
-pub +propagate-spec : {M : Type 1} → statement M
-+propagate-spec = close μ-propagate λ t. propagate-lts.spec (propagate-claims t)
+pub +propagate_spec : {M : Type 1} → statement M
++propagate_spec = close μ-propagate λ t. propagate-lts.spec (propagate-claims t)
     (propagate-at t)
     propagate.Post
     (propagate-mul-w t)

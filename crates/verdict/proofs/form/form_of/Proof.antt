@@ -5,16 +5,16 @@ use Rattle.verdict.proofs.Writing.{root-asks, form_is}
 use Rattle.verdict.proofs.form.form_of.Statement.{statement}
 use Rattle.verdict.proofs.form.form_of.Tie as tie
 
-sub-propagate : tie.Need-overflow-sub-propagate
+sub-propagate : tie.Need-overflow_sub-n
 sub-propagate c = search rules
 
-propagate-requires : tie.Need-propagate-requires
+propagate-requires : tie.Need-propagate-end-requires
 propagate-requires c κs = let s = c.before.before.before in (root-asks s.args.query s.requires, refl)
 
 returns : tie.Need-returns
 returns c =
     let s = c.before.before.before.before.before in
-    form_is s.args.query s.requires (c.before.propagate.result, c.before.propagate.new.1.1.0) c.before.propagate.ensures
+    form_is s.args.query s.requires (c.before.propagate-end.result, c.before.propagate-end.new.1.1.0) c.before.propagate-end.ensures
 
-pub form-of-spec : {M : Type 1} → statement M
-form-of-spec = tie.close (tie.spec sub-propagate propagate-requires returns)
+pub form_of_spec : {M : Type 1} → statement M
+form_of_spec = tie.close (tie.spec sub-propagate propagate-requires returns)

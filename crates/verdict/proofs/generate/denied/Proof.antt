@@ -7,55 +7,55 @@ use Rattle.verdict.proofs.Sets.{denied-none}
 use Rattle.verdict.proofs.generate.denied.Statement.{statement}
 use Rattle.verdict.proofs.generate.denied.Tie as tie
 
-fields-requires : tie.Need-fields-requires
+fields-requires : tie.Need-fields-f-requires
 fields-requires c κs = search rules
 
-mul-result : tie.Need-overflow-mul-result
+mul-result : tie.Need-offset_bounds-plains-left
 mul-result c = search rules
 
-element-copy-out-result : tie.Need-element-copy-out-result
+element-copy-out-result : tie.Need-bounds-plains-left
 element-copy-out-result c = search rules
 
-mul-result-2 : tie.Need-overflow-mul-result-2
+mul-result-2 : tie.Need-offset_bounds-denieds-left
 mul-result-2 c = search rules
 
-element-copy-out-result-2 : tie.Need-element-copy-out-result-2
+element-copy-out-result-2 : tie.Need-bounds-denieds-left
 element-copy-out-result-2 c = search rules
 
-mul-result-3 : tie.Need-overflow-mul-result-3
+mul-result-3 : tie.Need-offset_bounds-denieds-right
 mul-result-3 c = search rules
 
-element-copy-out-result-3 : tie.Need-element-copy-out-result-3
+element-copy-out-result-3 : tie.Need-bounds-denieds-right
 element-copy-out-result-3 c = search rules
 
-mul-result-4 : tie.Need-overflow-mul-result-4
+mul-result-4 : tie.Need-offset_bounds-denieds-left-in-5
 mul-result-4 c = search rules
 
-element-copy-out-result-4 : tie.Need-element-copy-out-result-4
+element-copy-out-result-4 : tie.Need-bounds-denieds-left-in-5
 element-copy-out-result-4 c = search rules
 
-mul-result-5 : tie.Need-overflow-mul-result-5
+mul-result-5 : tie.Need-offset_bounds-denieds-right-in-5
 mul-result-5 c = search rules
 
-element-copy-out-result-5 : tie.Need-element-copy-out-result-5
+element-copy-out-result-5 : tie.Need-bounds-denieds-right-in-5
 element-copy-out-result-5 c = search rules
 
-returns : tie.Need-returns
-returns c = let n = c.before.before.fields.ensures in rw (n.reads, kind-read n c.before.match.keys1)
+returns : tie.Need-returns-in-3
+returns c = let n = c.before.before.before.fields-f.ensures in rw (n.reads, kind-read n c.before.before.in-3.keys1)
 
-returns-2 : tie.Need-returns-2
-returns-2 c = let n = c.before.before.before.fields.ensures in rw (n.reads, kind-read n c.before.before.match.keys2)
+returns-2 : tie.Need-returns-in-4
+returns-2 c = let n = c.before.before.before.before.fields-f.ensures in rw (n.reads, kind-read n c.before.before.before.in-4.keys2)
 
-returns-3 : tie.Need-returns-3
-returns-3 c = let n = c.before.before.before.fields.ensures in rw (n.reads, kind-read n c.before.before.match.keys3)
+returns-3 : tie.Need-returns-in-5
+returns-3 c = let n = c.before.before.before.before.fields-f.ensures in rw (n.reads, kind-read n c.before.before.before.in-5.keys3)
 
-returns-4 : tie.Need-returns-4
+returns-4 : tie.Need-returns-in_default
 returns-4 c =
-    let n = c.before.fields.ensures in let s = c.before.before.args in let r = c.match.rest in
+    let n = c.before.fields-f.ensures in let s = c.before.before.args in let r = c.in_default.rest in
     sym (denied-none s.w (λ k. get_or s.plains.now k 0) (λ k. get_or s.denieds.now k 0) (kind-not-read n r.0.0.1) (kind-not-read n r.0.1) (kind-not-read n r.1))
 
-pub denied-spec : {M : Type 1} → statement M
-denied-spec =
+pub denied_spec : {M : Type 1} → statement M
+denied_spec =
     tie.close
     (tie.spec
     fields-requires

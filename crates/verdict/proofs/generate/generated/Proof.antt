@@ -10,62 +10,62 @@ use Rattle.verdict.proofs.Sets.{first_sets, plain-next, denied-next, sets-found}
 use Rattle.verdict.proofs.generate.generated.Statement.{statement}
 use Rattle.verdict.proofs.generate.generated.Tie as tie
 
-abbrev invariant-loop : tie.invariant-loop
+abbrev invariant-loop : tie.invariant-loop-i
 invariant-loop nodes n all plains₀ denieds₀ i₀ plains denieds i = (i ≤ n) × IsForm nodes n × (plains ≡ first_sets (plain_bits nodes) i) × (denieds ≡ first_sets (denied_bits nodes) i)
 
-abbrev decreases-loop : tie.decreases-loop
+abbrev decreases-loop : tie.decreases-loop-i
 decreases-loop nodes n all plains₀ denieds₀ i₀ plains denieds i = n - i
 
-loop-holds : tie.Need-loop-init invariant-loop decreases-loop
+loop-holds : tie.Need-loop-i-init invariant-loop decreases-loop
 loop-holds c = search rules
 
-mul-w : tie.Need-overflow-mul-w invariant-loop decreases-loop
+mul-w : tie.Need-offset_bounds-all-i invariant-loop decreases-loop
 mul-w c = search rules
 
-shared-slice-read-w : tie.Need-shared-slice-read-w invariant-loop decreases-loop
+shared-slice-read-w : tie.Need-bounds-all-i invariant-loop decreases-loop
 shared-slice-read-w c = search rules
 
-plain-requires : tie.Need-plain-requires invariant-loop decreases-loop
+plain-requires : tie.Need-plain-p-requires invariant-loop decreases-loop
 plain-requires c κs = search rules
 
-denied-requires : tie.Need-denied-requires invariant-loop decreases-loop
+denied-requires : tie.Need-denied-d-requires invariant-loop decreases-loop
 denied-requires c κs = search rules
 
-mul-plains : tie.Need-overflow-mul-plains invariant-loop decreases-loop
+mul-plains : tie.Need-offset_bounds-plains-i invariant-loop decreases-loop
 mul-plains c = search rules
 
-array-write-plains : tie.Need-array-write-plains invariant-loop decreases-loop
+array-write-plains : tie.Need-bounds-plains-i invariant-loop decreases-loop
 array-write-plains c = search rules
 
-mul-denieds : tie.Need-overflow-mul-denieds invariant-loop decreases-loop
+mul-denieds : tie.Need-offset_bounds-denieds-i invariant-loop decreases-loop
 mul-denieds c = search rules
 
-array-write-denieds : tie.Need-array-write-denieds invariant-loop decreases-loop
+array-write-denieds : tie.Need-bounds-denieds-i invariant-loop decreases-loop
 array-write-denieds c = search rules
 
-add-i : tie.Need-overflow-add-i invariant-loop decreases-loop
+add-i : tie.Need-overflow_add-i invariant-loop decreases-loop
 add-i c = search rules
 
-loop-less : tie.Need-loop-smaller invariant-loop decreases-loop
+loop-less : tie.Need-loop-i-smaller invariant-loop decreases-loop
 loop-less c = search rules
 
-loop-again : tie.Need-loop-preserved invariant-loop decreases-loop
+loop-again : tie.Need-loop-i-preserved invariant-loop decreases-loop
 loop-again c =
-    let t = c.before.before.before in let l = t.before.before.before.before.before.loop in let s = t.before.before.before.before.before.before.before.args in
+    let t = c.before.before.before in let l = t.before.before.before.before.before.loop-i in let s = t.before.before.before.before.before.before.before.args in
     let ns = s.nodes.now in let f = l.invariant.1 in let p = l.invariant.2 in let d = l.invariant.3 in (
       omega arith,
       f,
-      plain-next ns s.n l.i l.plains l.denieds p d f (omega arith) t.plain.result t.plain.ensures,
-      denied-next ns s.n l.i l.plains l.denieds p d f (omega arith) c.denied.result c.denied.ensures,
+      plain-next ns s.n l.i l.plains l.denieds p d f (omega arith) t.plain-p.result t.plain-p.ensures,
+      denied-next ns s.n l.i l.plains l.denieds p d f (omega arith) c.denied-d.result c.denied-d.ensures,
     )
 
 returns : tie.Need-returns invariant-loop decreases-loop
 returns c =
-    let s = c.before.before.before.args in let l = c.before.loop in
+    let s = c.before.before.before.args in let l = c.before.loop-i in
     sets-found s.nodes.now s.n l.i l.plains l.denieds l.invariant.2 l.invariant.3 (omega arith)
 
-pub generated-spec : {M : Type 1} → statement M
-generated-spec =
+pub generated_spec : {M : Type 1} → statement M
+generated_spec =
     tie.close
     (tie.spec
     invariant-loop

@@ -12,55 +12,55 @@ use Rattle.verdict.specs.Code.Generating.Reports.{missing-more, missing-still}
 use Rattle.verdict.proofs.report.ungenerated.Statement.{statement}
 use Rattle.verdict.proofs.report.ungenerated.Tie as tie
 
-abbrev invariant-loop : tie.invariant-loop
+abbrev invariant-loop : tie.invariant-loop-c
 invariant-loop set variables count missing₀ c₀ missing c = (c ≤ count) × (length variables ≡ 4) × (missing ≡ missing_from set (take c variables))
 
-abbrev decreases-loop : tie.decreases-loop
+abbrev decreases-loop : tie.decreases-loop-c
 decreases-loop set variables count missing₀ c₀ missing c = count - c
 
-loop-holds : tie.Need-loop-init invariant-loop decreases-loop
+loop-holds : tie.Need-loop-c-init invariant-loop decreases-loop
 loop-holds c = (omega arith, search rules, sym (mask-nil 16))
 
-array-read-wide : tie.Need-array-read-wide invariant-loop decreases-loop
+array-read-wide : tie.Need-bounds-variables-c invariant-loop decreases-loop
 array-read-wide c = search rules
 
-wide-requires : tie.Need-wide-requires invariant-loop decreases-loop
+wide-requires : tie.Need-wide-x-requires invariant-loop decreases-loop
 wide-requires c κs = search rules
 
-is-in-requires : tie.Need-is-in-requires invariant-loop decreases-loop
+is-in-requires : tie.Need-is_in-requires invariant-loop decreases-loop
 is-in-requires c κs = search rules
 
-term-bit-requires : tie.Need-term-bit-requires invariant-loop decreases-loop
+term-bit-requires : tie.Need-term_bit-missing-requires invariant-loop decreases-loop
 term-bit-requires c κs = search rules
 
-add-c : tie.Need-overflow-add-c invariant-loop decreases-loop
+add-c : tie.Need-overflow_add-c invariant-loop decreases-loop
 add-c c = search rules
 
-loop-less : tie.Need-loop-smaller invariant-loop decreases-loop
+loop-less : tie.Need-loop-c-smaller invariant-loop decreases-loop
 loop-less c = search rules
 
-loop-again : tie.Need-loop-preserved invariant-loop decreases-loop
+loop-again : tie.Need-loop-c-preserved invariant-loop decreases-loop
 loop-again c =
     let s = c.before.before.before.before.before.before.args in
-    let l = c.before.before.before.before.loop in
-    let says = ap not (sym c.before.is-in.ensures) in (
+    let l = c.before.before.before.before.loop-c in
+    let says = ap not (sym c.before.is_in.ensures) in (
       omega arith,
       l.invariant.1,
       ⊎_elim
-          (λ w. w.2 ∙ missing-more s.set s.columns.variables l.c c.before.before.wide.result l.missing (omega (arith, l.invariant.1)) c.before.before.wide.ensures.0 l.invariant.2 w.1.result w.1.ensures (says ∙ w.0.taken))
-          (λ w. w.1 ∙ missing-still s.set s.columns.variables l.c c.before.before.wide.result l.missing (omega (arith, l.invariant.1)) c.before.before.wide.ensures.0 l.invariant.2 (says ∙ w.0.left))
-          c.if1.branch,
+          (λ w. w.2 ∙ missing-more s.set s.columns.variables l.c c.before.before.wide-x.result l.missing (omega (arith, l.invariant.1)) c.before.before.wide-x.ensures.0 l.invariant.2 w.1.result w.1.ensures (says ∙ w.0.taken))
+          (λ w. w.1 ∙ missing-still s.set s.columns.variables l.c c.before.before.wide-x.result l.missing (omega (arith, l.invariant.1)) c.before.before.wide-x.ensures.0 l.invariant.2 (says ∙ w.0.left))
+          c.if-not-is_in.branch,
     )
 
 returns : tie.Need-returns invariant-loop decreases-loop
 returns c =
     let s = c.before.before.before.args in
-    let l = c.before.loop in
+    let l = c.before.loop-c in
     let e : l.c ≡ s.columns.count = omega arith in
     l.invariant.2 ∙ ap (λ k. missing_from s.set (take k s.columns.variables)) e
 
-pub ungenerated-spec : {M : Type 1} → statement M
-ungenerated-spec =
+pub ungenerated_spec : {M : Type 1} → statement M
+ungenerated_spec =
     tie.close
     (tie.spec
     invariant-loop

@@ -14,48 +14,48 @@ use Rattle.verdict.specs.Code.Generating.Reports.{bits-start, bits-more, bits-st
 use Rattle.verdict.proofs.report.unranged.Statement.{statement}
 use Rattle.verdict.proofs.report.unranged.Tie as tie
 
-abbrev invariant-loop : tie.invariant-loop
+abbrev invariant-loop : tie.invariant-loop-i
 invariant-loop nodes plains n all found₀ i₀ found i = (i ≤ n) × (found ≡ bits (λ j. ltb j i && is_unranged nodes j) max_nodes)
 
-abbrev decreases-loop : tie.decreases-loop
+abbrev decreases-loop : tie.decreases-loop-i
 decreases-loop nodes plains n all found₀ i₀ found i = n - i
 
-loop-holds : tie.Need-loop-init invariant-loop decreases-loop
+loop-holds : tie.Need-loop-i-init invariant-loop decreases-loop
 loop-holds c = (omega arith, bits-start (is_unranged c.before.args.nodes.now) max_nodes)
 
-mul-w : tie.Need-overflow-mul-w invariant-loop decreases-loop
+mul-w : tie.Need-offset_bounds-all-i invariant-loop decreases-loop
 mul-w c = search rules
 
-shared-slice-read-w : tie.Need-shared-slice-read-w invariant-loop decreases-loop
+shared-slice-read-w : tie.Need-bounds-all-i invariant-loop decreases-loop
 shared-slice-read-w c = search rules
 
-fields-requires : tie.Need-fields-requires invariant-loop decreases-loop
+fields-requires : tie.Need-fields-f-requires invariant-loop decreases-loop
 fields-requires c κs = search rules
 
-mul-is-in : tie.Need-overflow-mul-is-in invariant-loop decreases-loop
+mul-is-in : tie.Need-offset_bounds-plains-under invariant-loop decreases-loop
 mul-is-in c = search rules
 
-element-copy-out-is-in : tie.Need-element-copy-out-is-in invariant-loop decreases-loop
+element-copy-out-is-in : tie.Need-bounds-plains-under invariant-loop decreases-loop
 element-copy-out-is-in c = search rules
 
-is-in-requires : tie.Need-is-in-requires invariant-loop decreases-loop
+is-in-requires : tie.Need-is_in-requires invariant-loop decreases-loop
 is-in-requires c κs = search rules
 
-node-bit-requires : tie.Need-node-bit-requires invariant-loop decreases-loop
+node-bit-requires : tie.Need-node_bit-found-requires invariant-loop decreases-loop
 node-bit-requires c κs = search rules
 
-add-i : tie.Need-overflow-add-i invariant-loop decreases-loop
+add-i : tie.Need-overflow_add-i invariant-loop decreases-loop
 add-i c = search rules
 
-loop-less : tie.Need-loop-smaller invariant-loop decreases-loop
+loop-less : tie.Need-loop-i-smaller invariant-loop decreases-loop
 loop-less c = search rules
 
-loop-again : tie.Need-loop-preserved invariant-loop decreases-loop
+loop-again : tie.Need-loop-i-preserved invariant-loop decreases-loop
 loop-again c =
-    let n = c.before.fields.ensures in
+    let n = c.before.fields-f.ensures in
     let t = c.before.before.before.before.before.before in
     let s = t.args in
-    let l = c.before.before.before.before.loop in
+    let l = c.before.before.before.before.loop-i in
     let p = is_unranged s.nodes.now in (
       omega arith,
       ⊎_elim
@@ -63,18 +63,18 @@ loop-again c =
           (⊎_elim
           (λ v. v.4 ∙ bits-still p max_nodes l.i l.found l.invariant.1 (unranged-found s.nodes.now s.plains.now s.n l.i false t.requires.0 t.requires.1 (omega arith) (kind-read n v.0.taken) (ap not (sym (rw n.reads at v.2.ensures)) ∙ v.3.left)))
           (λ v. v.1 ∙ bits-still p max_nodes l.i l.found l.invariant.1 (unranged-other s.nodes.now l.i (kind-not-read n v.0.left))))
-          c.if1.branch,
+          c.if-kind-eq6.branch,
     )
 
 returns : tie.Need-returns invariant-loop decreases-loop
 returns c =
     let s = c.before.before.before.args in
-    let l = c.before.loop in
+    let l = c.before.loop-i in
     let e : l.i ≡ s.n = omega arith in
     l.invariant.1 ∙ ap (λ k. bits (λ j. ltb j k && is_unranged s.nodes.now j) max_nodes) e
 
-pub unranged-spec : {M : Type 1} → statement M
-unranged-spec =
+pub unranged_spec : {M : Type 1} → statement M
+unranged_spec =
     tie.close
     (tie.spec
     invariant-loop

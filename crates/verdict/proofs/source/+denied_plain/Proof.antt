@@ -145,296 +145,296 @@ plain-claims t =
 
 module _ (t : ℕ) where
   -- Past the first test: where the function started, its node's fields, that node i generates x there, and that it is an or where the match names no other kind.
-  abbrev denied-start : denied-lts.Else1 (denied-claims t) (denied_at t) denied.Post → denied-lts.Start (denied-claims t) (denied_at t) denied.Post
+  abbrev denied-start : denied-lts.Else-not-is_in (denied-claims t) (denied_at t) denied.Post → denied-lts.Start (denied-claims t) (denied_at t) denied.Post
   denied-start c = c.before.before.before.before.before.before
 
-  denied-node : (c : denied-lts.Else1 (denied-claims t) (denied_at t) denied.Post) → NodeOf (word (denied-start c).requires) c.before.before.before.fields.result
-  denied-node c = c.before.before.before.fields.ensures
+  denied-node : (c : denied-lts.Else-not-is_in (denied-claims t) (denied_at t) denied.Post) → NodeOf (word (denied-start c).requires) c.before.before.before.fields.result
+  denied-node c = c.before.before.before.before.fields-f.ensures
 
-  denied-generates : (c : denied-lts.Else1 (denied-claims t) (denied_at t) denied.Post) → let a = (denied-start c).args in order.generates_denied a.nodes.now a.i a.x ≡ true
-  denied-generates c = denied-self (denied-start c).requires c.before.is-in.ensures (not-false c.before.is-in.result c.if1.false)
+  denied-generates : (c : denied-lts.Else-not-is_in (denied-claims t) (denied_at t) denied.Post) → let a = (denied-start c).args in order.generates_denied a.nodes.now a.i a.x ≡ true
+  denied-generates c = denied-self (denied-start c).requires c.before.is_in.ensures (not-false c.before.is_in.result c.if-not-is_in.false)
 
-  denied-or : (c : denied-lts.At-match-rest (denied-claims t) (denied_at t) denied.Post) → kind (word (denied-start c.before).pre) ≡ 5
-  denied-or c = law (denied-start c.before).pre order.denied-kind (denied-generates c.before) (kind-not-read (denied-node c.before) c.match.rest.0.1) (kind-not-read (denied-node c.before) c.match.rest.1)
+  denied-or : (c : denied-lts.In_default (denied-claims t) (denied_at t) denied.Post) → kind (word (denied-start c.before).pre) ≡ 5
+  denied-or c = law (denied-start c.before).pre order.denied-kind (denied-generates c.before) (kind-not-read (denied-node c.before) c.in_default.rest.0.1) (kind-not-read (denied-node c.before) c.in_default.rest.1)
 
-  denied-mul-w : denied-lts.Need-overflow-mul-w (denied-claims t) (denied_at t) denied.Post
+  denied-mul-w : denied-lts.Need-offset_bounds-all-i (denied-claims t) (denied_at t) denied.Post
   denied-mul-w c = search rules
 
-  denied-shared-slice-read-w : denied-lts.Need-shared-slice-read-w (denied-claims t) (denied_at t) denied.Post
+  denied-shared-slice-read-w : denied-lts.Need-bounds-all-i (denied-claims t) (denied_at t) denied.Post
   denied-shared-slice-read-w c = search rules
 
-  denied-fields-requires : denied-lts.Need-fields-requires (denied-claims t) (denied_at t) denied.Post
+  denied-fields-requires : denied-lts.Need-fields-f-requires (denied-claims t) (denied_at t) denied.Post
   denied-fields-requires c κs = search rules
 
-  denied-mul-is-in : denied-lts.Need-overflow-mul-is-in (denied-claims t) (denied_at t) denied.Post
+  denied-mul-is-in : denied-lts.Need-offset_bounds-denieds-i (denied-claims t) (denied_at t) denied.Post
   denied-mul-is-in c = search rules
 
-  denied-element-copy-out-is-in : denied-lts.Need-element-copy-out-is-in (denied-claims t) (denied_at t) denied.Post
+  denied-element-copy-out-is-in : denied-lts.Need-bounds-denieds-i (denied-claims t) (denied_at t) denied.Post
   denied-element-copy-out-is-in c = search rules
 
-  denied-is-in-requires : denied-lts.Need-is-in-requires (denied-claims t) (denied_at t) denied.Post
+  denied-is-in-requires : denied-lts.Need-is_in-requires (denied-claims t) (denied_at t) denied.Post
   denied-is-in-requires c κs = search rules
 
-  denied-returns : denied-lts.Need-returns (denied-claims t) (denied_at t) denied.Post
+  denied-returns : denied-lts.Need-returns-then-not-is_in (denied-claims t) (denied_at t) denied.Post
   denied-returns c =
-      let g = c.before.before.before.before.before.before.requires in sym (law g order.denied-none (denied-self g c.before.is-in.ensures (not-true c.before.is-in.result c.if1.true)))
+      let g = c.before.before.before.before.before.before.before.requires in sym (law g order.denied-none (denied-self g c.before.is_in.ensures (not-true c.before.is_in.result c.if-not-is_in.true)))
 
   denied-plain-requires : denied-lts.Need-plain-requires (denied-claims t) (denied_at t) denied.Post
-  denied-plain-requires c κs = let n = denied-node c.before in rw n.reads (to-not (denied-start c.before).pre (kind-read n c.match.keys1))
+  denied-plain-requires c κs = let n = denied-node c.before in rw n.reads (to-not (denied-start c.before).pre (kind-read n c.in-3.keys1))
 
   denied-denied-requires : denied-lts.Need-denied-requires (denied-claims t) (denied_at t) denied.Post
-  denied-denied-requires c κs = let n = denied-node c.before in rw n.reads (to-left (denied-start c.before).pre (inl (kind-read n c.match.keys2)))
+  denied-denied-requires c κs = let n = denied-node c.before in rw n.reads (to-left (denied-start c.before).pre (inl (kind-read n c.in-4.keys2)))
 
-  denied-denied-requires-2 : denied-lts.Need-denied-requires-2 (denied-claims t) (denied_at t) denied.Post
-  denied-denied-requires-2 c κs = let n = denied-node c.before.before in rw n.reads (to-right (denied-start c.before.before).pre (inl (kind-read n c.before.match.keys2)))
+  denied-denied-requires-2 : denied-lts.Need-denied-requires-in-4 (denied-claims t) (denied_at t) denied.Post
+  denied-denied-requires-2 c κs = let n = denied-node c.before.before in rw n.reads (to-right (denied-start c.before.before).pre (inl (kind-read n c.before.in-4.keys2)))
 
-  denied-mul-is-in-2 : denied-lts.Need-overflow-mul-is-in-2 (denied-claims t) (denied_at t) denied.Post
+  denied-mul-is-in-2 : denied-lts.Need-offset_bounds-denieds-left (denied-claims t) (denied_at t) denied.Post
   denied-mul-is-in-2 c = search rules
 
-  denied-element-copy-out-is-in-2 : denied-lts.Need-element-copy-out-is-in-2 (denied-claims t) (denied_at t) denied.Post
+  denied-element-copy-out-is-in-2 : denied-lts.Need-bounds-denieds-left (denied-claims t) (denied_at t) denied.Post
   denied-element-copy-out-is-in-2 c = search rules
 
-  denied-is-in-requires-2 : denied-lts.Need-is-in-requires-2 (denied-claims t) (denied_at t) denied.Post
+  denied-is-in-requires-2 : denied-lts.Need-is_in-requires-in_default (denied-claims t) (denied_at t) denied.Post
   denied-is-in-requires-2 c κs = search rules
 
-  denied-denied-requires-3 : denied-lts.Need-denied-requires-3 (denied-claims t) (denied_at t) denied.Post
+  denied-denied-requires-3 : denied-lts.Need-denied-requires-then-is_in (denied-claims t) (denied_at t) denied.Post
   denied-denied-requires-3 c κs = let at = c.before.before.before in rw (denied-node at.before).reads (to-left (denied-start at.before).pre (inr (denied-or at)))
 
-  denied-returns-2 : denied-lts.Need-returns-2 (denied-claims t) (denied_at t) denied.Post
+  denied-returns-2 : denied-lts.Need-returns-then-is_in (denied-claims t) (denied_at t) denied.Post
   denied-returns-2 c =
       let at = c.before.before.before.before in let g = (denied-start at.before).pre in let e = (denied-node at.before).reads in
-      (rw e at c.denied3.ensures) ∙ sym (law g order.denied-or-left (denied-or at) (denied-left g (inr (denied-or at)) (rw e at c.before.before.is-in2.ensures) c.before.if2.true))
+      (rw e at c.denied-then-is_in.ensures) ∙ sym (law g order.denied-or-left (denied-or at) (denied-left g (inr (denied-or at)) (rw e at c.before.before.is_in-in_default.ensures) c.before.if-is_in.true))
 
-  denied-denied-requires-4 : denied-lts.Need-denied-requires-4 (denied-claims t) (denied_at t) denied.Post
+  denied-denied-requires-4 : denied-lts.Need-denied-requires-in_default (denied-claims t) (denied_at t) denied.Post
   denied-denied-requires-4 c κs = let at = c.before.before.before in rw (denied-node at.before).reads (to-right (denied-start at.before).pre (inr (denied-or at)))
 
-  denied-returns-3 : denied-lts.Need-returns-3 (denied-claims t) (denied_at t) denied.Post
+  denied-returns-3 : denied-lts.Need-returns-in-3 (denied-claims t) (denied_at t) denied.Post
   denied-returns-3 c =
       let n = denied-node c.before.before in
-      (rw n.reads at c.plain.ensures) ∙ sym (law (denied-start c.before.before).pre order.denied-not (kind-read n c.before.match.keys1))
+      (rw n.reads at c.plain.ensures) ∙ sym (law (denied-start c.before.before).pre order.denied-not (kind-read n c.before.in-3.keys1))
 
-  denied-returns-4 : denied-lts.Need-returns-4 (denied-claims t) (denied_at t) denied.Post
+  denied-returns-4 : denied-lts.Need-returns-in-4 (denied-claims t) (denied_at t) denied.Post
   denied-returns-4 c =
       let at = c.before.before in let n = denied-node at.before in
-      rw (c.before.denied.ensures, c.denied2.ensures, n.reads) (sym (law (denied-start at.before).pre order.denied-and (kind-read n at.match.keys2) (denied-generates at.before)))
+      rw (c.before.denied.ensures, c.denied-in-4.ensures, n.reads) (sym (law (denied-start at.before).pre order.denied-and (kind-read n at.in-4.keys2) (denied-generates at.before)))
 
-  denied-returns-5 : denied-lts.Need-returns-5 (denied-claims t) (denied_at t) denied.Post
+  denied-returns-5 : denied-lts.Need-returns-else-is_in (denied-claims t) (denied_at t) denied.Post
   denied-returns-5 c =
       let at = c.before.before.before.before in let g = (denied-start at.before).pre in let e = (denied-node at.before).reads in
-      (rw e at c.denied4.ensures) ∙ sym (law g order.denied-or-right (denied-or at) (denied-left g (inr (denied-or at)) (rw e at c.before.before.is-in2.ensures) c.before.if2.false))
+      (rw e at c.denied-in_default.ensures) ∙ sym (law g order.denied-or-right (denied-or at) (denied-left g (inr (denied-or at)) (rw e at c.before.before.is_in-in_default.ensures) c.before.if-is_in.false))
 
 -- ---- plain
 
 module _ (t : ℕ) where
   -- Past the first test: where the function started, its node's fields, and that node i generates x there.
-  abbrev plain-start : plain-lts.Else1 (plain-claims t) (plain_at t) plain.Post → plain-lts.Start (plain-claims t) (plain_at t) plain.Post
+  abbrev plain-start : plain-lts.Else-not-is_in (plain-claims t) (plain_at t) plain.Post → plain-lts.Start (plain-claims t) (plain_at t) plain.Post
   plain-start c = c.before.before.before.before.before.before
 
-  plain-node : (c : plain-lts.Else1 (plain-claims t) (plain_at t) plain.Post) → NodeOf (word (plain-start c).requires) c.before.before.before.fields.result
-  plain-node c = c.before.before.before.fields.ensures
+  plain-node : (c : plain-lts.Else-not-is_in (plain-claims t) (plain_at t) plain.Post) → NodeOf (word (plain-start c).requires) c.before.before.before.fields.result
+  plain-node c = c.before.before.before.before.fields-f.ensures
 
-  plain-generates : (c : plain-lts.Else1 (plain-claims t) (plain_at t) plain.Post) → let a = (plain-start c).args in order.generates a.nodes.now a.i a.x ≡ true
-  plain-generates c = plain-self (plain-start c).requires c.before.is-in.ensures (not-false c.before.is-in.result c.if1.false)
+  plain-generates : (c : plain-lts.Else-not-is_in (plain-claims t) (plain_at t) plain.Post) → let a = (plain-start c).args in order.generates a.nodes.now a.i a.x ≡ true
+  plain-generates c = plain-self (plain-start c).requires c.before.is_in.ensures (not-false c.before.is_in.result c.if-not-is_in.false)
 
   -- An and past the second test: its left child doesn't generate x.
-  plain-not-left : (c : plain-lts.Else2 (plain-claims t) (plain_at t) plain.Post) → let s = plain-start c.before.before.before.before in order.generates s.args.nodes.now (left (word s.pre)) s.args.x ≡ false
+  plain-not-left : (c : plain-lts.Else-is_in (plain-claims t) (plain_at t) plain.Post) → let s = plain-start c.before.before.before.before in order.generates s.args.nodes.now (left (word s.pre)) s.args.x ≡ false
   plain-not-left c =
       let at = c.before.before.before in let n = plain-node at.before in
-      plain-left (plain-start at.before).pre (inl (kind-read n at.match.keys3)) (rw n.reads at c.before.is-in2.ensures) c.if2.false
+      plain-left (plain-start at.before).pre (inl (kind-read n at.in-4.keys3)) (rw n.reads at c.before.is_in-in-4.ensures) c.if-is_in.false
 
-  abbrev plain-and : plain-lts.After-is-in3 (plain-claims t) (plain_at t) plain.Post → plain-lts.At-match-keys3 (plain-claims t) (plain_at t) plain.Post
+  abbrev plain-and : plain-lts.After-is_in-in-4-2 (plain-claims t) (plain_at t) plain.Post → plain-lts.In-4 (plain-claims t) (plain_at t) plain.Post
   plain-and c = c.before.before.before.before.before
 
   -- Past the third neither child does.
-  plain-neither : (c : plain-lts.Else3 (plain-claims t) (plain_at t) plain.Post) → let s = plain-start (plain-and c.before).before in order.generates s.args.nodes.now (right (word s.pre)) s.args.x ≡ false
+  plain-neither : (c : plain-lts.Else-is_in-2 (plain-claims t) (plain_at t) plain.Post) → let s = plain-start (plain-and c.before).before in order.generates s.args.nodes.now (right (word s.pre)) s.args.x ≡ false
   plain-neither c =
       let at = plain-and c.before in let n = plain-node at.before in
-      plain_right (plain-start at.before).pre (inl (kind-read n at.match.keys3)) (rw n.reads at c.before.is-in3.ensures) c.if3.false
+      plain_right (plain-start at.before).pre (inl (kind-read n at.match.keys3)) (rw n.reads at c.before.is_in-in-4-2.ensures) c.if-is_in-2.false
 
   -- The fourth tells whether the right child equates x with a variable that the left one generates.
-  abbrev plain-third : plain-lts.After-is-in4 (plain-claims t) (plain_at t) plain.Post → plain-lts.Else3 (plain-claims t) (plain_at t) plain.Post
+  abbrev plain-third : plain-lts.After-is_in-in-4-3 (plain-claims t) (plain_at t) plain.Post → plain-lts.Else-is_in-2 (plain-claims t) (plain_at t) plain.Post
   plain-third c = c.before.before.before.before
 
-  abbrev plain_by : plain-lts.After-is-in4 (plain-claims t) (plain_at t) plain.Post → plain-lts.At-match-keys3 (plain-claims t) (plain_at t) plain.Post
+  abbrev plain_by : plain-lts.After-is_in-in-4-3 (plain-claims t) (plain_at t) plain.Post → plain-lts.In-4 (plain-claims t) (plain_at t) plain.Post
   plain_by c = plain-and (plain-third c).before
 
   plain-told :
-      (c : plain-lts.After-is-in4 (plain-claims t) (plain_at t) plain.Post) {b : Bool} → c.is-in4.result ≡ b →
+      (c : plain-lts.After-is_in-in-4-3 (plain-claims t) (plain_at t) plain.Post) {b : Bool} → c.is-in4.result ≡ b →
       let s = plain-start (plain_by c).before in let ns = s.args.nodes.now in let w = word s.pre in has 16 (equated_set (get_or ns (right w) 0) (plain_bits ns (left w))) s.args.x ≡ b
   plain-told c e =
       let at = plain_by c in let g = (plain-start at.before).pre in let n = plain-node at.before in
-      equated-shown g (inl (kind-read n at.match.keys3)) (rw n.reads at c.before.equated.ensures) c.is-in4.ensures e
+      equated-shown g (inl (kind-read n at.match.keys3)) (rw n.reads at c.before.equated.ensures) c.is_in-in-4-3.ensures e
 
   -- By the equality on one side, x has the nodes from which the other side generates the variable that it is equated with.
-  abbrev Carried : plain-lts.After-is-in4 (plain-claims t) (plain_at t) plain.Post → (ℕ → ℕ) → (ℕ → ℕ) → Type 0
+  abbrev Carried : plain-lts.After-is_in-in-4-3 (plain-claims t) (plain_at t) plain.Post → (ℕ → ℕ) → (ℕ → ℕ) → Type 0
   Carried c side other =
       let s = plain-start (plain_by c).before in let ns = s.args.nodes.now in
       let y = other_side (get_or ns (side (word s.pre)) 0) s.args.x in
       (y < 16) × (plain_nodes ns s.args.i s.args.x ≡ plain_nodes ns (other (word s.pre)) y)
 
   -- Where the fourth test holds, that is the equality on the right; else the one on the left.
-  plain-by-right : (c : plain-lts.Then4 (plain-claims t) (plain_at t) plain.Post) → Carried c.before right left
+  plain-by-right : (c : plain-lts.Then-is_in-3 (plain-claims t) (plain_at t) plain.Post) → Carried c.before right left
   plain-by-right c =
       let past = plain-third c.before in let at = plain-and past.before in
-      law (plain-start at.before).pre order.nodes-and-by-right (kind-read (plain-node at.before) at.match.keys3) (plain-not-left past.before.before.before) (plain-neither past) (plain-told c.before c.if4.true)
+      law (plain-start at.before).pre order.nodes-and-by-right (kind-read (plain-node at.before) at.match.keys3) (plain-not-left past.before.before.before) (plain-neither past) (plain-told c.before c.if-is_in-3.true)
 
-  plain-by-left : (c : plain-lts.Else4 (plain-claims t) (plain_at t) plain.Post) → Carried c.before left right
+  plain-by-left : (c : plain-lts.Else-is_in-3 (plain-claims t) (plain_at t) plain.Post) → Carried c.before left right
   plain-by-left c =
       let past = plain-third c.before in let at = plain-and past.before in
-      law (plain-start at.before).pre order.nodes-and-by-left (kind-read (plain-node at.before) at.match.keys3) (plain-generates at.before) (plain-not-left past.before.before.before) (plain-neither past) (plain-told c.before c.if4.false)
+      law (plain-start at.before).pre order.nodes-and-by-left (kind-read (plain-node at.before) at.match.keys3) (plain-generates at.before) (plain-not-left past.before.before.before) (plain-neither past) (plain-told c.before c.if-is_in-3.false)
 
-  plain-mul-w : plain-lts.Need-overflow-mul-w (plain-claims t) (plain_at t) plain.Post
+  plain-mul-w : plain-lts.Need-offset_bounds-all-i (plain-claims t) (plain_at t) plain.Post
   plain-mul-w c = search rules
 
-  plain-shared-slice-read-w : plain-lts.Need-shared-slice-read-w (plain-claims t) (plain_at t) plain.Post
+  plain-shared-slice-read-w : plain-lts.Need-bounds-all-i (plain-claims t) (plain_at t) plain.Post
   plain-shared-slice-read-w c = search rules
 
-  plain-fields-requires : plain-lts.Need-fields-requires (plain-claims t) (plain_at t) plain.Post
+  plain-fields-requires : plain-lts.Need-fields-f-requires (plain-claims t) (plain_at t) plain.Post
   plain-fields-requires c κs = search rules
 
-  plain-mul-is-in : plain-lts.Need-overflow-mul-is-in (plain-claims t) (plain_at t) plain.Post
+  plain-mul-is-in : plain-lts.Need-offset_bounds-plains-i (plain-claims t) (plain_at t) plain.Post
   plain-mul-is-in c = search rules
 
-  plain-element-copy-out-is-in : plain-lts.Need-element-copy-out-is-in (plain-claims t) (plain_at t) plain.Post
+  plain-element-copy-out-is-in : plain-lts.Need-bounds-plains-i (plain-claims t) (plain_at t) plain.Post
   plain-element-copy-out-is-in c = search rules
 
-  plain-is-in-requires : plain-lts.Need-is-in-requires (plain-claims t) (plain_at t) plain.Post
+  plain-is-in-requires : plain-lts.Need-is_in-requires (plain-claims t) (plain_at t) plain.Post
   plain-is-in-requires c κs = search rules
 
-  plain-returns : plain-lts.Need-returns (plain-claims t) (plain_at t) plain.Post
+  plain-returns : plain-lts.Need-returns-then-not-is_in (plain-claims t) (plain_at t) plain.Post
   plain-returns c =
-      let g = c.before.before.before.before.before.before.requires in sym (law g order.nodes-none (plain-self g c.before.is-in.ensures (not-true c.before.is-in.result c.if1.true)))
+      let g = c.before.before.before.before.before.before.before.requires in sym (law g order.nodes-none (plain-self g c.before.is_in.ensures (not-true c.before.is_in.result c.if-not-is_in.true)))
 
   plain-denied-requires : plain-lts.Need-denied-requires (plain-claims t) (plain_at t) plain.Post
-  plain-denied-requires c κs = let n = plain-node c.before in rw n.reads (to-not (plain-start c.before).pre (kind-read n c.match.keys2))
+  plain-denied-requires c κs = let n = plain-node c.before in rw n.reads (to-not (plain-start c.before).pre (kind-read n c.in-3.keys2))
 
-  plain-mul-is-in-2 : plain-lts.Need-overflow-mul-is-in-2 (plain-claims t) (plain_at t) plain.Post
+  plain-mul-is-in-2 : plain-lts.Need-offset_bounds-plains-left (plain-claims t) (plain_at t) plain.Post
   plain-mul-is-in-2 c = search rules
 
-  plain-element-copy-out-is-in-2 : plain-lts.Need-element-copy-out-is-in-2 (plain-claims t) (plain_at t) plain.Post
+  plain-element-copy-out-is-in-2 : plain-lts.Need-bounds-plains-left (plain-claims t) (plain_at t) plain.Post
   plain-element-copy-out-is-in-2 c = search rules
 
-  plain-is-in-requires-2 : plain-lts.Need-is-in-requires-2 (plain-claims t) (plain_at t) plain.Post
+  plain-is-in-requires-2 : plain-lts.Need-is_in-requires-in-4 (plain-claims t) (plain_at t) plain.Post
   plain-is-in-requires-2 c κs = search rules
 
   plain-plain-requires : plain-lts.Need-plain-requires (plain-claims t) (plain_at t) plain.Post
-  plain-plain-requires c κs = let at = c.before.before.before in let n = plain-node at.before in rw n.reads (to-left (plain-start at.before).pre (inl (kind-read n at.match.keys3)))
+  plain-plain-requires c κs = let at = c.before.before.before in let n = plain-node at.before in rw n.reads (to-left (plain-start at.before).pre (inl (kind-read n at.in-4.keys3)))
 
-  plain-returns-2 : plain-lts.Need-returns-2 (plain-claims t) (plain_at t) plain.Post
+  plain-returns-2 : plain-lts.Need-returns-then-is_in (plain-claims t) (plain_at t) plain.Post
   plain-returns-2 c =
-      let at = c.before.before.before.before in let g = (plain-start at.before).pre in let n = plain-node at.before in let k = kind-read n at.match.keys3 in
-      (rw n.reads at c.plain.ensures) ∙ sym (law g order.nodes-and-left k (plain-left g (inl k) (rw n.reads at c.before.before.is-in2.ensures) c.before.if2.true))
+      let at = c.before.before.before.before in let g = (plain-start at.before).pre in let n = plain-node at.before in let k = kind-read n at.in-4.keys3 in
+      (rw n.reads at c.plain.ensures) ∙ sym (law g order.nodes-and-left k (plain-left g (inl k) (rw n.reads at c.before.before.is_in-in-4.ensures) c.before.if-is_in.true))
 
-  plain-mul-is-in-3 : plain-lts.Need-overflow-mul-is-in-3 (plain-claims t) (plain_at t) plain.Post
+  plain-mul-is-in-3 : plain-lts.Need-offset_bounds-plains-right (plain-claims t) (plain_at t) plain.Post
   plain-mul-is-in-3 c = search rules
 
-  plain-element-copy-out-is-in-3 : plain-lts.Need-element-copy-out-is-in-3 (plain-claims t) (plain_at t) plain.Post
+  plain-element-copy-out-is-in-3 : plain-lts.Need-bounds-plains-right (plain-claims t) (plain_at t) plain.Post
   plain-element-copy-out-is-in-3 c = search rules
 
-  plain-is-in-requires-3 : plain-lts.Need-is-in-requires-3 (plain-claims t) (plain_at t) plain.Post
+  plain-is-in-requires-3 : plain-lts.Need-is_in-requires-in-4-2 (plain-claims t) (plain_at t) plain.Post
   plain-is-in-requires-3 c κs = search rules
 
-  plain-plain-requires-2 : plain-lts.Need-plain-requires-2 (plain-claims t) (plain_at t) plain.Post
+  plain-plain-requires-2 : plain-lts.Need-plain-requires-then-is_in-2 (plain-claims t) (plain_at t) plain.Post
   plain-plain-requires-2 c κs = let at = plain-and c.before in let n = plain-node at.before in rw n.reads (to-right (plain-start at.before).pre (inl (kind-read n at.match.keys3)))
 
-  plain-returns-3 : plain-lts.Need-returns-3 (plain-claims t) (plain_at t) plain.Post
+  plain-returns-3 : plain-lts.Need-returns-then-is_in-2 (plain-claims t) (plain_at t) plain.Post
   plain-returns-3 c =
       let at = plain-and c.before.before in let g = (plain-start at.before).pre in let n = plain-node at.before in let k = kind-read n at.match.keys3 in
-      (rw n.reads at c.plain2.ensures) ∙ sym (law g order.nodes-and-right k (plain-not-left c.before.before.before.before) (plain_right g (inl k) (rw n.reads at c.before.before.is-in3.ensures) c.before.if3.true))
+      (rw n.reads at c.plain-then-is_in-2.ensures) ∙ sym (law g order.nodes-and-right k (plain-not-left c.before.before.before.before) (plain_right g (inl k) (rw n.reads at c.before.before.is_in-in-4-2.ensures) c.before.if-is_in-2.true))
 
-  plain-mul-equated : plain-lts.Need-overflow-mul-equated (plain-claims t) (plain_at t) plain.Post
+  plain-mul-equated : plain-lts.Need-offset_bounds-all-right (plain-claims t) (plain_at t) plain.Post
   plain-mul-equated c = search rules
 
-  plain-shared-slice-read-equated : plain-lts.Need-shared-slice-read-equated (plain-claims t) (plain_at t) plain.Post
+  plain-shared-slice-read-equated : plain-lts.Need-bounds-all-right (plain-claims t) (plain_at t) plain.Post
   plain-shared-slice-read-equated c = search rules
 
-  plain-mul-equated-2 : plain-lts.Need-overflow-mul-equated-2 (plain-claims t) (plain_at t) plain.Post
+  plain-mul-equated-2 : plain-lts.Need-offset_bounds-plains-left-in-4 (plain-claims t) (plain_at t) plain.Post
   plain-mul-equated-2 c = search rules
 
-  plain-element-copy-out-equated : plain-lts.Need-element-copy-out-equated (plain-claims t) (plain_at t) plain.Post
+  plain-element-copy-out-equated : plain-lts.Need-bounds-plains-left-in-4 (plain-claims t) (plain_at t) plain.Post
   plain-element-copy-out-equated c = search rules
 
   plain-equated-requires : plain-lts.Need-equated-requires (plain-claims t) (plain_at t) plain.Post
   plain-equated-requires c κs = search rules
 
-  plain-is-in-requires-4 : plain-lts.Need-is-in-requires-4 (plain-claims t) (plain_at t) plain.Post
+  plain-is-in-requires-4 : plain-lts.Need-is_in-requires-in-4-3 (plain-claims t) (plain_at t) plain.Post
   plain-is-in-requires-4 c κs = search rules
 
-  plain-mul-other : plain-lts.Need-overflow-mul-other (plain-claims t) (plain_at t) plain.Post
+  plain-mul-other : plain-lts.Need-offset_bounds-all-right-then-is_in-3 (plain-claims t) (plain_at t) plain.Post
   plain-mul-other c = search rules
 
-  plain-shared-slice-read-other : plain-lts.Need-shared-slice-read-other (plain-claims t) (plain_at t) plain.Post
+  plain-shared-slice-read-other : plain-lts.Need-bounds-all-right-then-is_in-3 (plain-claims t) (plain_at t) plain.Post
   plain-shared-slice-read-other c = search rules
 
   plain-other-requires : plain-lts.Need-other-requires (plain-claims t) (plain_at t) plain.Post
   plain-other-requires c κs = search rules
 
-  plain-plain-requires-3 : plain-lts.Need-plain-requires-3 (plain-claims t) (plain_at t) plain.Post
+  plain-plain-requires-3 : plain-lts.Need-plain-requires-then-is_in-3 (plain-claims t) (plain_at t) plain.Post
   plain-plain-requires-3 c κs =
       let then = c.before.before in let at = plain_by then.before in let g = (plain-start at.before).pre in let n = plain-node at.before in
       rw (c.other.ensures, n.reads) (to-child g (both-children (word g) (inl (kind-read n at.match.keys3))).0 (plain-by-right then).0)
 
-  plain-returns-4 : plain-lts.Need-returns-4 (plain-claims t) (plain_at t) plain.Post
+  plain-returns-4 : plain-lts.Need-returns-then-is_in-3 (plain-claims t) (plain_at t) plain.Post
   plain-returns-4 c =
       let then = c.before.before.before in let n = plain-node (plain_by then.before).before in
-      (rw (c.before.other.ensures, n.reads) at c.plain3.ensures) ∙ sym (plain-by-right then).1
+      (rw (c.before.other.ensures, n.reads) at c.plain-then-is_in-3.ensures) ∙ sym (plain-by-right then).1
 
-  plain-mul-other-2 : plain-lts.Need-overflow-mul-other-2 (plain-claims t) (plain_at t) plain.Post
+  plain-mul-other-2 : plain-lts.Need-offset_bounds-all-left (plain-claims t) (plain_at t) plain.Post
   plain-mul-other-2 c = search rules
 
-  plain-shared-slice-read-other-2 : plain-lts.Need-shared-slice-read-other-2 (plain-claims t) (plain_at t) plain.Post
+  plain-shared-slice-read-other-2 : plain-lts.Need-bounds-all-left (plain-claims t) (plain_at t) plain.Post
   plain-shared-slice-read-other-2 c = search rules
 
-  plain-other-requires-2 : plain-lts.Need-other-requires-2 (plain-claims t) (plain_at t) plain.Post
+  plain-other-requires-2 : plain-lts.Need-other-requires-in-4 (plain-claims t) (plain_at t) plain.Post
   plain-other-requires-2 c κs = search rules
 
-  plain-plain-requires-4 : plain-lts.Need-plain-requires-4 (plain-claims t) (plain_at t) plain.Post
+  plain-plain-requires-4 : plain-lts.Need-plain-requires-in-4 (plain-claims t) (plain_at t) plain.Post
   plain-plain-requires-4 c κs =
       let else4 = c.before.before in let at = plain_by else4.before in let g = (plain-start at.before).pre in let n = plain-node at.before in
-      rw (c.other2.ensures, n.reads) (to-child g (both-children (word g) (inl (kind-read n at.match.keys3))).1 (plain-by-left else4).0)
+      rw (c.other-in-4.ensures, n.reads) (to-child g (both-children (word g) (inl (kind-read n at.match.keys3))).1 (plain-by-left else4).0)
 
-  plain-plain-requires-5 : plain-lts.Need-plain-requires-5 (plain-claims t) (plain_at t) plain.Post
-  plain-plain-requires-5 c κs = let n = plain-node c.before in rw n.reads (to-left (plain-start c.before).pre (inr (kind-read n c.match.keys4)))
+  plain-plain-requires-5 : plain-lts.Need-plain-requires-in-5 (plain-claims t) (plain_at t) plain.Post
+  plain-plain-requires-5 c κs = let n = plain-node c.before in rw n.reads (to-left (plain-start c.before).pre (inr (kind-read n c.in-5.keys4)))
 
-  plain-plain-requires-6 : plain-lts.Need-plain-requires-6 (plain-claims t) (plain_at t) plain.Post
-  plain-plain-requires-6 c κs = let n = plain-node c.before.before in rw n.reads (to-right (plain-start c.before.before).pre (inr (kind-read n c.before.match.keys4)))
+  plain-plain-requires-6 : plain-lts.Need-plain-requires-in-5-2 (plain-claims t) (plain_at t) plain.Post
+  plain-plain-requires-6 c κs = let n = plain-node c.before.before in rw n.reads (to-right (plain-start c.before.before).pre (inr (kind-read n c.before.in-5.keys4)))
 
-  plain-plain-requires-7 : plain-lts.Need-plain-requires-7 (plain-claims t) (plain_at t) plain.Post
-  plain-plain-requires-7 c κs = let n = plain-node c.before in rw n.reads (to-exists (plain-start c.before).pre (kind-read n c.match.keys5))
+  plain-plain-requires-7 : plain-lts.Need-plain-requires-in-6 (plain-claims t) (plain_at t) plain.Post
+  plain-plain-requires-7 c κs = let n = plain-node c.before in rw n.reads (to-exists (plain-start c.before).pre (kind-read n c.in-6.keys5))
 
-  plain-node-bit-requires : plain-lts.Need-node-bit-requires (plain-claims t) (plain_at t) plain.Post
+  plain-node-bit-requires : plain-lts.Need-node_bit-requires (plain-claims t) (plain_at t) plain.Post
   plain-node-bit-requires c κs = search rules
 
-  plain-returns-5 : plain-lts.Need-returns-5 (plain-claims t) (plain_at t) plain.Post
-  plain-returns-5 c = sym (law (plain-start c.before).pre order.nodes-truth (kind-read (plain-node c.before) c.match.keys1))
+  plain-returns-5 : plain-lts.Need-returns-in-0 (plain-claims t) (plain_at t) plain.Post
+  plain-returns-5 c = sym (law (plain-start c.before).pre order.nodes-truth (kind-read (plain-node c.before) c.in-0.keys1))
 
-  plain-returns-6 : plain-lts.Need-returns-6 (plain-claims t) (plain_at t) plain.Post
+  plain-returns-6 : plain-lts.Need-returns-in-3 (plain-claims t) (plain_at t) plain.Post
   plain-returns-6 c =
       let n = plain-node c.before.before in
-      (rw n.reads at c.denied.ensures) ∙ sym (law (plain-start c.before.before).pre order.nodes-not (kind-read n c.before.match.keys2))
+      (rw n.reads at c.denied.ensures) ∙ sym (law (plain-start c.before.before).pre order.nodes-not (kind-read n c.before.in-3.keys2))
 
-  plain-returns-7 : plain-lts.Need-returns-7 (plain-claims t) (plain_at t) plain.Post
+  plain-returns-7 : plain-lts.Need-returns-else-is_in-3 (plain-claims t) (plain_at t) plain.Post
   plain-returns-7 c =
       let else4 = c.before.before.before in let n = plain-node (plain_by else4.before).before in
-      (rw (c.before.other2.ensures, n.reads) at c.plain4.ensures) ∙ sym (plain-by-left else4).1
+      (rw (c.before.other-in-4.ensures, n.reads) at c.plain-in-4.ensures) ∙ sym (plain-by-left else4).1
 
-  plain-returns-8 : plain-lts.Need-returns-8 (plain-claims t) (plain_at t) plain.Post
+  plain-returns-8 : plain-lts.Need-returns-in-5 (plain-claims t) (plain_at t) plain.Post
   plain-returns-8 c =
       let at = c.before.before in let n = plain-node at.before in
-      rw (c.before.plain5.ensures, c.plain6.ensures, n.reads) (sym (law (plain-start at.before).pre order.nodes-or (kind-read n at.match.keys4) (plain-generates at.before)))
+      rw (c.before.plain-in-5.ensures, c.plain-in-5-2.ensures, n.reads) (sym (law (plain-start at.before).pre order.nodes-or (kind-read n at.in-5.keys4) (plain-generates at.before)))
 
-  plain-returns-9 : plain-lts.Need-returns-9 (plain-claims t) (plain_at t) plain.Post
+  plain-returns-9 : plain-lts.Need-returns-in-6 (plain-claims t) (plain_at t) plain.Post
   plain-returns-9 c =
       let at = c.before in let n = plain-node at.before in
-      (rw n.reads at c.plain7.ensures) ∙ sym (law (plain-start at.before).pre order.nodes-exists (kind-read n at.match.keys5) (plain-generates at.before))
+      (rw n.reads at c.plain-in-6.ensures) ∙ sym (law (plain-start at.before).pre order.nodes-exists (kind-read n at.in-6.keys5) (plain-generates at.before))
 
-  plain-returns-10 : plain-lts.Need-returns-10 (plain-claims t) (plain_at t) plain.Post
+  plain-returns-10 : plain-lts.Need-returns-in_default (plain-claims t) (plain_at t) plain.Post
   plain-returns-10 c =
       let at = c.before in let g = (plain-start at.before).pre in
-      c.node-bit.ensures ∙ sym (law g order.nodes-leaf (plain-generates at.before) (leaf-kind (kind (word g)) (omega (arith, at.match.rest, ap (λ f. f.kind) (plain-node at.before).reads)) (omega (arith, at.match.rest, ap (λ f. f.kind) (plain-node at.before).reads, law g order.kind-known))))
+      c.node_bit.ensures ∙ sym (law g order.nodes-leaf (plain-generates at.before) (leaf-kind (kind (word g)) (omega (arith, at.in_default.rest, ap (λ f. f.kind) (plain-node at.before).reads)) (omega (arith, at.in_default.rest, ap (λ f. f.kind) (plain-node at.before).reads, law g order.kind-known))))
 
-pub +denied-plain-spec : {M : Type 1} → statement M
-+denied-plain-spec =
+pub +denied_plain_spec : {M : Type 1} → statement M
++denied_plain_spec =
     close
     μ-denied
     μ-plain

@@ -11,18 +11,18 @@ use Rattle.verdict.proofs.source.other.Tie as tie
 abbrev side : tie.Start → Bool → ℕ
 side s b = cond b (equal_term s.args.w) (variable s.args.w)
 
-fields-requires : tie.Need-fields-requires
+fields-requires : tie.Need-fields-f-requires
 fields-requires c κs = search rules
 
-returns : tie.Need-returns
+returns : tie.Need-returns-then-x-variable
 returns c =
-    let e = c.before.fields.ensures.reads in let s = c.before.before in
-    rw e (sym (ap (side s) (eq-eqb s.args.x (variable s.args.w) (rw e at c.if1.true))))
+    let e = c.before.fields-f.ensures.reads in let s = c.before.before in
+    rw e (sym (ap (side s) (eq-eqb s.args.x (variable s.args.w) (rw e at c.if-x-variable.true))))
 
-returns-2 : tie.Need-returns-2
+returns-2 : tie.Need-returns
 returns-2 c =
-    let e = c.before.fields.ensures.reads in let s = c.before.before in
-    rw e (sym (ap (side s) (ne_eqb s.args.x (variable s.args.w) (rw e at c.if1.false))))
+    let e = c.before.fields-f.ensures.reads in let s = c.before.before in
+    rw e (sym (ap (side s) (ne_eqb s.args.x (variable s.args.w) (rw e at c.if-x-variable.false))))
 
-pub other-spec : {M : Type 1} → statement M
-other-spec = tie.close (tie.spec fields-requires returns returns-2)
+pub other_spec : {M : Type 1} → statement M
+other_spec = tie.close (tie.spec fields-requires returns returns-2)
