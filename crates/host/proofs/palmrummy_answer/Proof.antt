@@ -20,7 +20,7 @@ out c = (start c).args.out.now
 
 -- The output after it.
 abbrev after : tie.After-find_bytes-listing → List ℕ
-after c = c.find_bytes-listing.new.1.0
+after c = c.find_bytes-listing.new.out
 
 -- ---- the needs
 

@@ -26,10 +26,10 @@ module _ (c : tie.After-verdict-at) where
   judged = line (cond start.args.safe word_safe word_unsafe) []
 
   ends : c.verdict-at.result ≡ length judged
-  ends = let a = start.args in omega (arith, wrote-end 0 c.verdict-at.result judged a.out.now c.verdict-at.new.1.0 c.verdict-at.ensures)
+  ends = let a = start.args in omega (arith, wrote-end 0 c.verdict-at.result judged a.out.now c.verdict-at.new.out c.verdict-at.ensures)
 
-  kept : length c.verdict-at.new.1.0 ≡ length start.args.out.now
-  kept = let a = start.args in wrote-length 0 c.verdict-at.result judged a.out.now c.verdict-at.new.1.0 c.verdict-at.ensures
+  kept : length c.verdict-at.new.out ≡ length start.args.out.now
+  kept = let a = start.args in wrote-length 0 c.verdict-at.result judged a.out.now c.verdict-at.new.out c.verdict-at.ensures
 
 verdict-requires : tie.Need-verdict-at-requires
 verdict-requires c κs = search rules
@@ -76,9 +76,9 @@ same_length c = search rules
 returns : tie.Need-returns
 returns c =
     let d = c.before.before in let v = d.before.before.before.before.before.before.before in let a = (start v).args in
-    wrote_then 0 v.verdict-at.result d.line.result (judged v) (line word_columns (take a.columns.count a.columns.variables)) a.out.now v.verdict-at.new.1.0 d.line.new.1.1.1.1.0
+    wrote_then 0 v.verdict-at.result d.line.result (judged v) (line word_columns (take a.columns.count a.columns.variables)) a.out.now v.verdict-at.new.out d.line.new.out
     v.verdict-at.ensures
-    (d.line.ensures ∙ ap (λ xs. wrote v.verdict-at.result (line word_columns (take a.columns.count xs)) v.verdict-at.new.1.0) (sym (four-of a.columns.variables 0 (places (start v)))))
+    (d.line.ensures ∙ ap (λ xs. wrote v.verdict-at.result (line word_columns (take a.columns.count xs)) v.verdict-at.new.out) (sym (four-of a.columns.variables 0 (places (start v)))))
 
 pub head_spec : {M : Type 1} → statement M
 head_spec =

@@ -80,7 +80,7 @@ loop-less c = search rules
 loop-again : tie.Need-loop-i-preserved invariant-loop decreases-loop
 loop-again c =
     let d = c.before.before in let l = d.before.before.before.before.loop-i in let a = d.before.before.before.before.before.before.before.args in
-    (omega arith, position-next a.k l.i l.from l.invariant.1, next a.numbers.now a.k l.i l.from a.at l.end a.out.now l.out l.invariant.1 l.invariant.2 d.line-end.result d.line-end.new.1.1.1.1.0 d.line-end.ensures)
+    (omega arith, position-next a.k l.i l.from l.invariant.1, next a.numbers.now a.k l.i l.from a.at l.end a.out.now l.out l.invariant.1 l.invariant.2 d.line-end.result d.line-end.new.out d.line-end.ensures)
 
 same_length : tie.Need-shape_of-out invariant-loop decreases-loop
 same_length c =

@@ -62,7 +62,7 @@ same_length c = search rules
 
 returns-2 : tie.Need-returns
 returns-2 c =
-    let f = c.before.before.before in let e = f.before.before.before.before.before in let a = assessed e in let after = f.evaluate-found.new.1.1.1.0 in
+    let f = c.before.before.before in let e = f.before.before.before.before.before in let a = assessed e in let after = f.evaluate-found.new.out in
     ap (λ l. (l, after)) c.list.ensures
     ∙ list-given (bytes a) a.assess.result a.assess.ensures e.enum_told-1.given.1 (λ k. (constant-fits a k).fits) front (length (out a)) (out a) f.evaluate-found.result after f.evaluate-found.ensures
 

@@ -83,10 +83,10 @@ abbrev counts : tie.After-words-2 → tie.After-constant_count-k
 counts c = c.before.before.before.before.before
 
 abbrev nodes : tie.After-words-2 → List ℕ
-nodes c = c.words-2.new.1.1.1.0
+nodes c = c.words-2.new.out
 
 abbrev constants : tie.After-words-2 → List ℕ
-constants c = c.before.before.before.words.new.1.1.1.0
+constants c = c.before.before.before.words.new.out
 
 -- The nodes are judged.
 abbrev words : tie.After-tree-tree → tie.After-words-2

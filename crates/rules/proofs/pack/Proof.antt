@@ -84,7 +84,7 @@ loop-again-3 c =
     let o = c.before.before.before in let n = o.before in let i = n.before in let g = i.before in let s = g.before in let e = s.before in let t = e.before.before in let l = t.before in (
       omega arith,
       takes-goals l.before.before.before.before.before.args.text.now l.loop-i.i l.loop-i.here l.loop-i.head l.loop-i.body l.loop-i.constants l.loop-i.nodes l.loop-i.invariant.1 t.loop-i-test.true s.step-here.result s.step-here.ensures e.effect-effect.result e.effect-effect.ensures g.stage.result g.stage.ensures i.if-stage-eq-OUT.false n.if-effect-eq-NOTHING.false o.if-effect-eq-COLUMN.false
-          c.goals-body.result c.goals-body.new.1.1.1.0 c.goals-body.new.1.1.1.1.0 c.goals-body.ensures,
+          c.goals-body.result c.goals-body.new.constants c.goals-body.new.nodes c.goals-body.ensures,
     )
 
 stage-requires-2 : tie.Need-stage-requires-2 invariant-loop decreases-loop

@@ -29,7 +29,7 @@ returns : tie.Need-returns
 returns c =
     let w = c.before.before in let v = w.before.before.before.before in let a = v.before.before.before.args in
     w.word-2.ensures
-    ∙ then-run a.at (word_bytes (a.n / 4294967296)) (word_bytes (a.n % 4294967296)) a.out.now v.word.new.1.0 (a.at + 4) v.word.ensures refl
+    ∙ then-run a.at (word_bytes (a.n / 4294967296)) (word_bytes (a.n % 4294967296)) a.out.now v.word.new.out (a.at + 4) v.word.ensures refl
 
 pub long_spec : {M : Type 1} → statement M
 long_spec =

@@ -42,7 +42,7 @@ module _ (c : tie.After-numbers-end) where
   count : length listed ≡ start.args.k
   count = let a = start.args in length-take-le a.k (drop a.from a.list.now) (omega (arith, length-drop a.from a.list.now))
 
-  room : (c.numbers-end.result + 1 ≤ length c.numbers-end.new.1.1.1.0) × (c.numbers-end.result ≤ 300000)
+  room : (c.numbers-end.result + 1 ≤ length c.numbers-end.new.out) × (c.numbers-end.result ≤ 300000)
   room =
       let a = start.args in let w = worded.bytes in let n = c.numbers-end in
       let e = ends a.at w.result n.result a.text.now listed a.out.now w.last.1.0 n.new.1.1.1.0 w.ensures n.ensures in

@@ -77,7 +77,7 @@ loop-less c = search rules
 loop-again : tie.Need-loop-i-preserved invariant-loop decreases-loop
 loop-again c =
     let d = c.before.before in let l = d.before.before.before.before.loop-i in let a = d.before.before.before.before.before.before.before.args in
-    (omega arith, next a.list.now a.from l.i a.at l.end a.out.now l.out l.invariant.1 d.number-end.result d.number-end.new.1.0 (omega arith) d.number-end.ensures)
+    (omega arith, next a.list.now a.from l.i a.at l.end a.out.now l.out l.invariant.1 d.number-end.result d.number-end.new.out (omega arith) d.number-end.ensures)
 
 same_length : tie.Need-shape_of-out invariant-loop decreases-loop
 same_length c =

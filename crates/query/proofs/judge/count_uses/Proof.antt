@@ -54,7 +54,7 @@ loop-again : tie.Need-loop-i-preserved invariant-loop decreases-loop
 loop-again c =
     let l = c.before.before.before.before.loop-i in let ns = c.before.before.before.before.before.before.args.nodes.now in
     let e : length ns ≡ max_nodes = search rules in
-    (omega arith, next ns l.counts c.count.new.0 l.i (omega arith) e l.invariant.1 c.count.ensures)
+    (omega arith, next ns l.counts c.count.new.counts l.i (omega arith) e l.invariant.1 c.count.ensures)
 
 returns : tie.Need-returns invariant-loop decreases-loop
 returns c =

@@ -49,7 +49,7 @@ abbrev start : tie.After-words → tie.Start
 start c = c.before.before.before.before.before.before
 
 abbrev written : tie.After-words → List ℕ
-written c = c.words.new.1.1.0
+written c = c.words.new.out
 
 pool-written : (c : tie.After-words) → let a = (start c).args in written c ≡ overlay a.at (with-pool a.q) a.out.now
 pool-written c =
@@ -63,7 +63,7 @@ still-long c = let a = (start c).args in ap length (pool-written c) ∙ length-o
 abbrev constants : tie.After-words-2 → tie.After-words
 constants c = c.before.before.before.before.before
 
-query-written : (c : tie.After-words-2) → let a = (start (constants c)).args in c.words-2.new.1.1.0 ≡ overlay a.at (bytes_of a.q) a.out.now
+query-written : (c : tie.After-words-2) → let a = (start (constants c)).args in c.words-2.new.out ≡ overlay a.at (bytes_of a.q) a.out.now
 query-written c =
     let w = constants c in let s = start w in let a = s.args in let q = a.q in let k = q.constant_count in let n = q.node_count in
     let hk : k ≤ length q.constants = omega (arith, constants-long s) in

@@ -20,7 +20,7 @@ add-requires c κs = search rules
 returns-2 : tie.Need-returns
 returns-2 c =
     let x = c.before.before.before.before.args in
-    deny-made x.denied c.before.before.negation.result x.n x.nodes.now (c.add.result, c.add.new.1.1.0) (not-false x.denied c.before.before.before.if-not-denied.false) c.before.before.negation.ensures c.add.ensures
+    deny-made x.denied c.before.before.negation.result x.n x.nodes.now (c.add.result, c.add.new.nodes) (not-false x.denied c.before.before.before.if-not-denied.false) c.before.before.negation.ensures c.add.ensures
 
 pub deny_spec : {M : Type 1} → statement M
 deny_spec = tie.close (tie.spec returns sub-negation negation-requires add-requires returns-2)

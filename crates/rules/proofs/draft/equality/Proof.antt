@@ -29,7 +29,7 @@ returns-2 : tie.Need-returns
 returns-2 c =
     let m = c.before.before in let a = m.before.before.before.args in
     rw (le-ltb 15 a.b.subject m.before.before.if-x-gt-HIGHEST.false)
-    (subst (λ w. ◌≡◌ (c.settle.result, c.settle.new.1.1.0) (settled (with_subject a.b) w a.nodes.now)) m.equality-w.ensures c.settle.ensures)
+    (subst (λ w. ◌≡◌ (c.settle.result, c.settle.new.nodes) (settled (with_subject a.b) w a.nodes.now)) m.equality-w.ensures c.settle.ensures)
 
 pub equality_spec : {M : Type 1} → statement M
 equality_spec = tie.close (tie.spec returns element-write-e cast-equality array-read-equality equality-requires settle-requires returns-2)

@@ -23,7 +23,7 @@ add-requires c κs = search rules
 returns-2 : tie.Need-returns
 returns-2 c =
     let x = c.before.before.before.before.args in
-    join-made x.before c.before.before.junction.result x.n x.nodes.now (c.add.result, c.add.new.1.1.0) c.before.before.before.if-before-eq0.false c.before.before.junction.ensures c.add.ensures
+    join-made x.before c.before.before.junction.result x.n x.nodes.now (c.add.result, c.add.new.nodes) c.before.before.before.if-before-eq0.false c.before.before.junction.ensures c.add.ensures
 
 pub join_spec : {M : Type 1} → statement M
 join_spec = tie.close (tie.spec returns sub-junction sub-junction-2 junction-requires add-requires returns-2)

@@ -28,7 +28,7 @@ returns-2 : tie.Need-returns
 returns-2 c =
     let m = c.before.before in let a = m.before.before.before.before.args in
     rw (le-ltb 15 a.b.subject m.before.before.before.if-r-gt-HIGHEST.false)
-    (subst (λ w. ◌≡◌ (c.settle.result, c.settle.new.1.1.0) (settled a.b w a.nodes.now)) m.membership-w.ensures c.settle.ensures)
+    (subst (λ w. ◌≡◌ (c.settle.result, c.settle.new.nodes) (settled a.b w a.nodes.now)) m.membership-w.ensures c.settle.ensures)
 
 pub relation_spec : {M : Type 1} → statement M
 relation_spec = tie.close (tie.spec returns cast-membership cast-membership-2 membership-requires settle-requires returns-2)

@@ -10,12 +10,12 @@ append-requires c κs = search rules
 returns : tie.Need-returns-then-end-gt-NODES
 returns c =
     let d = c.before in let a = d.before.before.args in
-    settled-full a.b a.w a.nodes.now d.append-end.result d.append-end.new.1.1.1.0 d.append-end.ensures c.if-end-gt-NODES.true
+    settled-full a.b a.w a.nodes.now d.append-end.result d.append-end.new.nodes d.append-end.ensures c.if-end-gt-NODES.true
 
 returns-2 : tie.Need-returns
 returns-2 c =
     let d = c.before.before in let a = d.before.before.args in
-    settled-done a.b a.w a.nodes.now d.append-end.result d.append-end.new.1.1.1.0 d.append-end.ensures c.before.if-end-gt-NODES.false
+    settled-done a.b a.w a.nodes.now d.append-end.result d.append-end.new.nodes d.append-end.ensures c.before.if-end-gt-NODES.false
 
 pub settle_spec : {M : Type 1} → statement M
 settle_spec = tie.close (tie.spec append-requires returns returns-2)

@@ -22,7 +22,7 @@ constant-requires c κs = let s = c.before.before.before.requires in (c.before.b
 returns-3 : tie.Need-returns
 returns-3 c =
     let a = c.before.before.before.before.args in
-    term-constant a.b a.x a.constants.now c.before.before.before.if-n-ge-TERMS.false c.before.before.if-e.false (c.constant.result, c.constant.new.1.1.0) c.constant.ensures
+    term-constant a.b a.x a.constants.now c.before.before.before.if-n-ge-TERMS.false c.before.before.if-e.false (c.constant.result, c.constant.new.constants) c.constant.ensures
 
 pub term_spec : {M : Type 1} → statement M
 term_spec = tie.close (tie.spec returns variable-requires returns-2 constant-requires returns-3)

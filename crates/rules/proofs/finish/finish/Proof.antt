@@ -50,7 +50,7 @@ returns-4 : tie.Need-returns-then-end-gt-NODES
 returns-4 c =
     let q = c.before.before in let m = q.before.before.before.before in let a = (start m).args in let i = m.before.before.before in
     ends-full a.h a.b a.constants a.nodes a.length i.before.if-h.false i.if-b.false m.is_missing.result m.is_missing.ensures q.before.before.before.if-is_missing.false
-    q.quantify-end.result q.quantify-end.new.1.1.1.0 q.quantify-end.ensures c.before.if-end-gt-NODES.true c.refused-then-end-gt-NODES.result c.refused-then-end-gt-NODES.ensures
+    q.quantify-end.result q.quantify-end.new.nodes q.quantify-end.ensures c.before.if-end-gt-NODES.true c.refused-then-end-gt-NODES.result c.refused-then-end-gt-NODES.ensures
 
 packed-requires : tie.Need-packed-requires
 packed-requires c κs = let m = c.before.before.before.before.before in let s = start m in (s.pre.1.constants_small, c.if-end-gt-NODES.false)
@@ -59,7 +59,7 @@ returns-5 : tie.Need-returns
 returns-5 c =
     let q = c.before.before in let m = q.before.before.before.before in let a = (start m).args in let i = m.before.before.before in
     ends-packed a.h a.b a.constants a.nodes a.length i.before.if-h.false i.if-b.false m.is_missing.result m.is_missing.ensures q.before.before.before.if-is_missing.false
-    q.quantify-end.result q.quantify-end.new.1.1.1.0 q.quantify-end.ensures c.before.if-end-gt-NODES.false c.packed.result c.packed.ensures
+    q.quantify-end.result q.quantify-end.new.nodes q.quantify-end.ensures c.before.if-end-gt-NODES.false c.packed.result c.packed.ensures
 
 pub finish_spec : {M : Type 1} → statement M
 finish_spec =

@@ -40,7 +40,7 @@ returns : tie.Need-returns-then-end-gt-NODES invariant-loop decreases-loop
 returns c =
     let d = c.before in let x = d.before.before in let e = x.before.before in let l = e.before.before in let a = l.before.args in
     let y = l.loop-x.x - 1 in let p = is_bound a.h a.seen.now in
-    bind-full y (bound_down p y) l.loop-x.end l.loop-x.nodes x.existence.result d.add-end.result d.add-end.new.1.1.0 x.existence.ensures d.add-end.ensures c.if-end-gt-NODES.true
+    bind-full y (bound_down p y) l.loop-x.end l.loop-x.nodes x.existence.result d.add-end.result d.add-end.new.nodes x.existence.ensures d.add-end.ensures c.if-end-gt-NODES.true
     ∙ sym (l.loop-x.invariant.3 ∙ ap (λ xs. bind_all xs l.loop-x.end l.loop-x.nodes) (bound-one p l.loop-x.x y (omega arith) (sym e.needs_exists.ensures ∙ x.before.if-needs_exists.true)))
 
 loop-less : tie.Need-loop-x-smaller-else-end-gt-NODES invariant-loop decreases-loop
@@ -50,12 +50,12 @@ loop-again : tie.Need-loop-x-preserved-else-end-gt-NODES invariant-loop decrease
 loop-again c =
     let d = c.before in let x = d.before.before in let e = x.before.before in let l = e.before.before in let a = l.before.args in
     let y = l.loop-x.x - 1 in let p = is_bound a.h a.seen.now in
-    let g = added-one x.existence.result l.loop-x.end l.loop-x.nodes d.add-end.result d.add-end.new.1.1.0 d.add-end.ensures c.if-end-gt-NODES.false in (
+    let g = added-one x.existence.result l.loop-x.end l.loop-x.nodes d.add-end.result d.add-end.new.nodes d.add-end.ensures c.if-end-gt-NODES.false in (
       omega arith,
       c.if-end-gt-NODES.false,
       omega arith,
       l.loop-x.invariant.3 ∙ ap (λ xs. bind_all xs l.loop-x.end l.loop-x.nodes) (bound-one p l.loop-x.x y (omega arith) (sym e.needs_exists.ensures ∙ x.before.if-needs_exists.true))
-          ∙ bind_goes y (bound_down p y) l.loop-x.end l.loop-x.nodes x.existence.result d.add-end.result d.add-end.new.1.1.0 x.existence.ensures d.add-end.ensures c.if-end-gt-NODES.false,
+          ∙ bind_goes y (bound_down p y) l.loop-x.end l.loop-x.nodes x.existence.result d.add-end.result d.add-end.new.nodes x.existence.ensures d.add-end.ensures c.if-end-gt-NODES.false,
     )
 
 loop-less-2 : tie.Need-loop-x-smaller invariant-loop decreases-loop

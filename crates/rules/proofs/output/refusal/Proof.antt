@@ -43,10 +43,10 @@ module _ (n middle next : ℕ) (out o₁ o₂ : List ℕ) (e₁ : (middle, o₁)
 -- ---- what is known at a place
 
 -- The word is written.
-word-ends : (c : tie.After-bytes-middle) → let a = c.before.before.before.before.args in (c.bytes-middle.result ≡ 8) × (length c.bytes-middle.new.1.0 ≡ length a.out.now)
+word-ends : (c : tie.After-bytes-middle) → let a = c.before.before.before.before.args in (c.bytes-middle.result ≡ 8) × (length c.bytes-middle.new.out ≡ length a.out.now)
 word-ends c =
     let a = c.before.before.before.before.args in
-    (wrote-end 0 c.bytes-middle.result word a.out.now c.bytes-middle.new.1.0 c.bytes-middle.ensures, wrote-length 0 c.bytes-middle.result word a.out.now c.bytes-middle.new.1.0 c.bytes-middle.ensures)
+    (wrote-end 0 c.bytes-middle.result word a.out.now c.bytes-middle.new.out c.bytes-middle.ensures, wrote-length 0 c.bytes-middle.result word a.out.now c.bytes-middle.new.out c.bytes-middle.ensures)
 
 -- The number is written.
 module _ (c : tie.After-digits-next) where
@@ -56,7 +56,7 @@ module _ (c : tie.After-digits-next) where
   abbrev start : tie.Start
   start = worded.before.before.before.before
 
-  number-room : (c.digits-next.result ≤ 11) × (length c.digits-next.new.1.1.0 ≡ length start.args.out.now)
+  number-room : (c.digits-next.result ≤ 11) × (length c.digits-next.new.out ≡ length start.args.out.now)
   number-room =
       let b = worded.bytes in let d = c.digits-next in
       number-ends start.args.number b.result d.result start.args.out.now b.last.1.0 d.new.1.1.0 b.ensures d.ensures
@@ -66,12 +66,12 @@ module _ (c : tie.After-digits-end) where
   abbrev digited : tie.After-digits-next
   digited = c
 
-  place-room : (c.digits-end.result ≤ 32) × (length c.digits-end.new.1.1.0 ≡ length (start digited).args.out.now)
+  place-room : (c.digits-end.result ≤ 32) × (length c.digits-end.new.out ≡ length (start digited).args.out.now)
   place-room =
       let a = (start digited).args in let b = (worded digited).bytes in let d = digited.digits in let e = c.digits-end in
       place-ends a.number b.result d.result a.out.now b.last.1.0 d.last.1.1.0 b.ensures d.ensures a.place e.result e.new.1.1.0 e.ensures
 
-  line-fed : (c.digits-end.result + 1, set c.digits-end.new.1.1.0 c.digits-end.result 10) ≡ wrote 0 (refusal_line (start digited).args.number (start digited).args.place) (start digited).args.out.now
+  line-fed : (c.digits-end.result + 1, set c.digits-end.new.out c.digits-end.result 10) ≡ wrote 0 (refusal_line (start digited).args.number (start digited).args.place) (start digited).args.out.now
   line-fed =
       let s = start digited in let a = s.args in let b = (worded digited).bytes in let d = digited.digits in let e = c.digits-end in
       fed a.number b.result d.result a.out.now b.last.1.0 d.last.1.1.0 b.ensures d.ensures a.place e.result e.new.1.1.0 e.ensures

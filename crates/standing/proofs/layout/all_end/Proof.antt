@@ -37,7 +37,7 @@ told c =
 returns : tie.Need-returns-then-not-ends invariant-loop decreases-loop
 returns c =
     let l = c.before.before.before.before in let s = l.before in let vs = s.args.values.now in let n = s.args.count in
-    sym (l.loop-i.invariant.1 ∙ all-stops (ends s.args.k) (take n (row_places vs)) l.loop-i.i [] (omega (arith, length-first vs n s.requires)) (told c.before ∙ not-true _ c.if-not-ends.true))
+    sym (l.loop-i.invariant.1 ∙ all-stops (ends s.args.k) (take n (row_places vs)) l.loop-i.i [] (omega (arith, length-first vs n s.requires)) (told c.before ∙ c.if-not-ends.true))
 
 add-i : tie.Need-overflow_add-i invariant-loop decreases-loop
 add-i c = search rules
@@ -48,7 +48,7 @@ loop-less c = search rules
 loop-again : tie.Need-loop-i-preserved invariant-loop decreases-loop
 loop-again c =
     let l = c.before.before.before.before in let s = l.before in let vs = s.args.values.now in let n = s.args.count in
-    (omega arith, l.loop-i.invariant.1 ∙ all-goes (ends s.args.k) (take n (row_places vs)) l.loop-i.i [] (omega (arith, length-first vs n s.requires)) (told c.before ∙ not-false _ c.if-not-ends.false))
+    (omega arith, l.loop-i.invariant.1 ∙ all-goes (ends s.args.k) (take n (row_places vs)) l.loop-i.i [] (omega (arith, length-first vs n s.requires)) (told c.before ∙ c.if-not-ends.false))
 
 returns-2 : tie.Need-returns invariant-loop decreases-loop
 returns-2 c =

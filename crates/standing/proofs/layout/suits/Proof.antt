@@ -25,7 +25,7 @@ abbrev asked : tie.Else-not-agree → tie.Start
 asked c = c.before.before.before
 
 same-columns : (c : tie.Else-not-agree) → (asked c).args.view.columns ≡ (asked c).args.columns
-same-columns c = confirmed-by (not-false _ c.if-not-agree.false) c.before.agree.ensures
+same-columns c = confirmed-by (c.if-not-agree.false) c.before.agree.ensures
 
 -- There are at most `max_rows` rows,
 abbrev agreed : tie.Else-count-gt-ROWS → tie.Else-not-agree
@@ -42,14 +42,14 @@ abbrev counted : tie.Else-not-all_end → tie.Else-count-gt-ROWS
 counted c = c.before.before.before
 
 all-ended : (c : tie.Else-not-all_end) → all_of (ends (columns (counted c)).count) (held_rows (list (counted c)).rows) ≡ true
-all-ended c = sym c.before.all_end.ensures ∙ not-false _ c.if-not-all_end.false
+all-ended c = sym c.before.all_end.ensures ∙ c.if-not-all_end.false
 
 -- in order,
 abbrev ended : tie.Else-not-all_ascend → tie.Else-not-all_end
 ended c = c.before.before.before
 
 all-ordered : (c : tie.Else-not-all_ascend) → is-ascending row_below (held_rows (list (counted (ended c))).rows) ≡ true
-all-ordered c = sym c.before.all_ascend.ensures ∙ not-false _ c.if-not-all_ascend.false
+all-ordered c = sym c.before.all_ascend.ensures ∙ c.if-not-all_ascend.false
 
 -- and the rest zero.
 abbrev ordered : tie.Else-not-rest_zero → tie.Else-not-all_ascend
@@ -59,7 +59,7 @@ abbrev held : tie.Else-not-rest_zero → tie.Else-count-gt-ROWS
 held c = counted (ended (ordered c))
 
 rest-is-zero : (c : tie.Else-not-rest_zero) → all_of (ends 0) (unused_places (list (held c)).rows) ≡ true
-rest-is-zero c = sym c.before.rest_zero.ensures ∙ not-false _ c.if-not-rest_zero.false
+rest-is-zero c = sym c.before.rest_zero.ensures ∙ c.if-not-rest_zero.false
 
 -- An endless list has no rows.
 no-rows-marked : (c : tie.Joined-else-view) → ((list (held c.before)).endless && ltb 0 (list (held c.before)).rows.count) ≡ false
@@ -74,7 +74,7 @@ own-length : (c : tie.Then-not-agree) → length c.before.before.before.args.vie
 own-length c = search rules
 
 returns : tie.Need-returns-then-not-agree
-returns c = suits-other c.before.before.before.args.view c.before.before.before.args.columns c.before.before.before.requires (own-length c) (refuted (not-true _ c.if-not-agree.true) c.before.agree.ensures)
+returns c = suits-other c.before.before.before.args.view c.before.before.before.args.columns c.before.before.before.requires (own-length c) (refuted (c.if-not-agree.true) c.before.agree.ensures)
 
 returns-2 : tie.Need-returns-then-count-gt-ROWS
 returns-2 c = suits-many c.before.before.before.before.before.before.args.view c.before.before.before.before.before.before.args.columns c.before.before.before.before.before.before.requires (same-columns c.before.before.before) c.if-count-gt-ROWS.true
@@ -83,19 +83,19 @@ all-end-requires : tie.Need-all_end-requires
 all-end-requires c κs = search rules
 
 returns-3 : tie.Need-returns-then-not-all_end
-returns-3 c = let t = c.before.before.before in suits-unended (list t) (columns t) (asked (agreed t)).requires (same-columns (agreed t)) t.if-count-gt-ROWS.false (sym c.before.all_end.ensures ∙ not-true _ c.if-not-all_end.true)
+returns-3 c = let t = c.before.before.before in suits-unended (list t) (columns t) (asked (agreed t)).requires (same-columns (agreed t)) t.if-count-gt-ROWS.false (sym c.before.all_end.ensures ∙ c.if-not-all_end.true)
 
 all-ascend-requires : tie.Need-all_ascend-requires
 all-ascend-requires c κs = search rules
 
 returns-4 : tie.Need-returns-then-not-all_ascend
-returns-4 c = let f = c.before.before.before in let t = counted f in suits-unordered (list t) (columns t) (asked (agreed t)).requires (same-columns (agreed t)) t.if2.left (all-ended f) (sym c.before.all_ascend.ensures ∙ not-true _ c.if-not-all_ascend.true)
+returns-4 c = let f = c.before.before.before in let t = counted f in suits-unordered (list t) (columns t) (asked (agreed t)).requires (same-columns (agreed t)) t.if2.left (all-ended f) (sym c.before.all_ascend.ensures ∙ c.if-not-all_ascend.true)
 
 rest-zero-requires : tie.Need-rest_zero-requires
 rest-zero-requires c κs = search rules
 
 returns-5 : tie.Need-returns-then-not-rest_zero
-returns-5 c = let g = c.before.before.before in let t = counted (ended g) in suits-full (list t) (columns t) (asked (agreed t)).requires (same-columns (agreed t)) t.if2.left (all-ended (ended g)) (all-ordered g) (sym c.before.rest_zero.ensures ∙ not-true _ c.if-not-rest_zero.true)
+returns-5 c = let g = c.before.before.before in let t = counted (ended g) in suits-full (list t) (columns t) (asked (agreed t)).requires (same-columns (agreed t)) t.if2.left (all-ended (ended g)) (all-ordered g) (sym c.before.rest_zero.ensures ∙ c.if-not-rest_zero.true)
 
 returns-6 : tie.Need-returns-then-count-gt0
 returns-6 c = let g = c.before.before in let t = held g in suits-marked (list t) (columns t) (asked (agreed t)).requires (same-columns (agreed t)) t.if2.left (all-ended (ended (ordered g))) (all-ordered (ordered g)) (rest-is-zero g) (λ i. c.before.if-view.true i && c.if-count-gt0.true i)

@@ -38,7 +38,7 @@ told c =
     tested (λ (y : Row). row_below y (values_of s.args.x)) c.below.ensures (c.before.read.ensures ∙ sym (getD-first s.args.ys.now s.args.m s.requires.0 l.loop-p.p c.before.before.loop-p-test.true))
 
 returns : tie.Need-returns-then-not-below invariant-loop decreases-loop
-returns c = (c.before.before.before.before.loop-p.invariant, λ h. subst T (told c.before ∙ not-true _ c.if-not-below.true))
+returns c = (c.before.before.before.before.loop-p.invariant, λ h. subst T (told c.before ∙ c.if-not-below.true))
 
 add-p : tie.Need-overflow_add-p invariant-loop decreases-loop
 add-p c = search rules
@@ -49,7 +49,7 @@ loop-less c = search rules
 loop-again : tie.Need-loop-p-preserved invariant-loop decreases-loop
 loop-again c =
     let l = c.before.before.before.before in let s = l.before.args in
-    passed-next (take s.m (row_places s.ys.now)) l.loop-p.p (values_of s.x) l.loop-p.invariant (told c.before ∙ not-false _ c.if-not-below.false)
+    passed-next (take s.m (row_places s.ys.now)) l.loop-p.p (values_of s.x) l.loop-p.invariant (told c.before ∙ c.if-not-below.false)
 
 returns-2 : tie.Need-returns invariant-loop decreases-loop
 returns-2 c = let s = c.before.before in (c.before.loop-p.invariant, λ h. absurd (omega (arith, length-first s.args.ys.now s.args.m s.requires.0)))

@@ -16,11 +16,11 @@ locate-requires : tie.Need-locate-spot-requires
 locate-requires c κs = search rules
 
 returns : tie.Need-returns-then-not-spot
-returns c = deletion-unfit c.before.before.before.args.s c.before.before.before.args.r (spot-fits c.before.before.before.args.s c.before.before.before.args.r c.before.before.locate-spot.ensures ∙ not-true _ c.if-not-spot.true)
+returns c = deletion-unfit c.before.before.before.args.s c.before.before.before.args.r (spot-fits c.before.before.before.args.s c.before.before.before.args.r c.before.before.locate-spot.ensures ∙ c.if-not-spot.true)
 
 -- what is known of a record that fits
 record-fit : (c : tie.Else-not-spot) → fits c.before.before.before.args.s.widths c.before.before.before.args.r ≡ true
-record-fit c = spot-fits c.before.before.before.args.s c.before.before.before.args.r c.before.before.locate-spot.ensures ∙ not-false _ c.if-not-spot.false
+record-fit c = spot-fits c.before.before.before.args.s c.before.before.before.args.r c.before.before.locate-spot.ensures ∙ c.if-not-spot.false
 
 lower-requires : tie.Need-lower-t-requires
 lower-requires c κs =

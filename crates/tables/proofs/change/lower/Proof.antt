@@ -43,7 +43,7 @@ loop-less c = search rules
 loop-again : tie.Need-loop-i-preserved invariant-loop decreases-loop
 loop-again c =
     let l = c.before.before.before.before.before.before.before.loop-i in
-    let rs = c.write.new.0 in let vs = c.write.new.1.0 in let next = c.before.before.before.read-next in
+    let rs = c.write.new.relations in let vs = c.write.new.values in let next = c.before.before.before.read-next in
     let w = written l.relations l.values l.i next.result rs vs (omega arith) l.invariant.1 l.invariant.2 c.write.ensures in
     (omega arith, w.relations_long, w.values_long, lower-turn l.relations l.values l.i next.result rs vs w (omega arith) next.ensures ∙ l.invariant.3)
 
@@ -56,7 +56,7 @@ sub-t22 c = search rules
 returns : tie.Need-returns invariant-loop decreases-loop
 returns c =
     let a = c.before.before.before.before.before.before.before.before.args in let l = c.before.before.before.before.loop-i in
-    let rs = c.write-2.new.0 in let vs = c.write-2.new.1.0 in
+    let rs = c.write-2.new.relations in let vs = c.write-2.new.values in
     let w = written l.relations l.values 255 blank rs vs (omega arith) l.invariant.1 l.invariant.2 c.write-2.ensures in
     store_is rs vs w.relations_long w.values_long _ _ (lowered (places_of a.s) a.k)
     (lower-end l.relations l.values rs vs w l.i (places_of a.s) a.k (omega arith) l.invariant.3)

@@ -39,7 +39,7 @@ loop-less c = search rules
 loop-again : tie.Need-loop-i-preserved invariant-loop decreases-loop
 loop-again c =
     let l = c.before.before.before.before.before.before.before.loop-i in
-    let rs = c.write.new.0 in let vs = c.write.new.1.0 in
+    let rs = c.write.new.relations in let vs = c.write.new.values in
     let w = written l.relations l.values l.i l.carried rs vs (omega arith) l.invariant.1 l.invariant.2 c.write.ensures in (
       omega arith,
       w.relations_long,

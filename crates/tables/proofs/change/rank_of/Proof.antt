@@ -36,7 +36,7 @@ returns c =
     let rs = s.args.relations.now in let vs = s.args.values.now in let n = s.args.count in let r = s.args.r in
     let i = c.before.before.before.before.loop-i.i in
     let here = getD-first rs vs n s.requires i c.before.before.before.loop-i-test.true in
-    let stop = rank-stops r (take n (places rs vs)) i (omega (arith, length-first rs vs n s.requires)) (tested (λ p. record_below p r) c.before.below.ensures (c.before.before.read.ensures ∙ sym here) ∙ not-true _ c.if-not-below.true) in
+    let stop = rank-stops r (take n (places rs vs)) i (omega (arith, length-first rs vs n s.requires)) (tested (λ p. record_below p r) c.before.below.ensures (c.before.before.read.ensures ∙ sym here) ∙ c.if-not-below.true) in
     omega (arith, stop, c.before.before.before.before.loop-i.invariant.1)
 
 add-i : tie.Need-overflow_add-i invariant-loop decreases-loop
@@ -51,7 +51,7 @@ loop-again c =
     let rs = s.args.relations.now in let vs = s.args.values.now in let n = s.args.count in let r = s.args.r in
     let i = c.before.before.before.before.loop-i.i in
     let here = getD-first rs vs n s.requires i c.before.before.before.loop-i-test.true in
-    let go = rank-goes r (take n (places rs vs)) i (omega (arith, length-first rs vs n s.requires)) (tested (λ p. record_below p r) c.before.below.ensures (c.before.before.read.ensures ∙ sym here) ∙ not-false _ c.if-not-below.false) in
+    let go = rank-goes r (take n (places rs vs)) i (omega (arith, length-first rs vs n s.requires)) (tested (λ p. record_below p r) c.before.below.ensures (c.before.before.read.ensures ∙ sym here) ∙ c.if-not-below.false) in
     omega (arith, go, c.before.before.before.before.loop-i.invariant.1)
 
 returns-2 : tie.Need-returns invariant-loop decreases-loop

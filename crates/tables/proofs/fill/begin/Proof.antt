@@ -14,10 +14,10 @@ none-requires c κs = search rules
 
 returns : tie.Need-returns-then-not-widths_are_right
 returns c =
-    beginning-refused c.before.before.before.args.widths (sym c.before.before.widths_are_right.ensures ∙ not-true _ c.before.if-not-widths_are_right.true) c.none.result c.none.ensures
+    beginning-refused c.before.before.before.args.widths (sym c.before.before.widths_are_right.ensures ∙ c.before.if-not-widths_are_right.true) c.none.result c.none.ensures
 
 returns-2 : tie.Need-returns
-returns-2 c = beginning-done c.before.before.args.widths (sym c.before.widths_are_right.ensures ∙ not-false _ c.if-not-widths_are_right.false)
+returns-2 c = beginning-done c.before.before.args.widths (sym c.before.widths_are_right.ensures ∙ c.if-not-widths_are_right.false)
 
 pub begin_spec : {M : Type 1} → statement M
 begin_spec = tie.close (tie.spec widths-are-right-requires none-requires returns returns-2)

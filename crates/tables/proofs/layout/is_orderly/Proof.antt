@@ -30,7 +30,7 @@ at s = record_at s.args.relations.now s.args.values.now
 
 -- The first record of a run fits.
 first_fits : (c : tie.Else-not-record_fits invariant-loop decreases-loop) → fits c.before.before.before.before.before.before.before.args.widths.now c.before.before.before.before.read.result ≡ true
-first_fits c = sym c.before.record_fits.ensures ∙ not-false _ c.if-not-record_fits.false
+first_fits c = sym c.before.record_fits.ensures ∙ c.if-not-record_fits.false
 
 size : (s : tie.Start invariant-loop decreases-loop) → length (records s) ≡ s.args.count
 size s = length-first s.args.relations.now s.args.values.now s.args.count s.requires
@@ -58,7 +58,7 @@ record-fits-requires c κs = search rules
 returns-2 : tie.Need-returns-then-not-record_fits invariant-loop decreases-loop
 returns-2 c =
     let l = c.before.before.before.before.before.before in let s = l.before in
-    entered-unfit s.args.widths.now (records s) s.args.count (at s) (size s) (placed s) l.loop-i.i (omega arith) c.before.before.before.before.read-r.ensures (sym c.before.record_fits.ensures ∙ not-true _ c.if-not-record_fits.true)
+    entered-unfit s.args.widths.now (records s) s.args.count (at s) (size s) (placed s) l.loop-i.i (omega arith) c.before.before.before.before.read-r.ensures (sym c.before.record_fits.ensures ∙ c.if-not-record_fits.true)
 
 add-least : tie.Need-overflow_add-least invariant-loop decreases-loop
 add-least c = search rules

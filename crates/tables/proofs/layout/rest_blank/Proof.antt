@@ -35,7 +35,7 @@ returns c =
     let here = getD-places rs vs i c.before.before.before.loop-i-test.true in
     sym
     (c.before.before.before.before.loop-i.invariant.1
-    ∙ all-stops is_blank (places rs vs) i blank (omega (arith, length-places rs vs)) (tested is_blank c.before.same.ensures (c.before.before.read.ensures ∙ sym here) ∙ not-true _ c.if-not-same.true))
+    ∙ all-stops is_blank (places rs vs) i blank (omega (arith, length-places rs vs)) (tested is_blank c.before.same.ensures (c.before.before.read.ensures ∙ sym here) ∙ c.if-not-same.true))
 
 add-i : tie.Need-overflow_add-i invariant-loop decreases-loop
 add-i c = search rules
@@ -50,7 +50,7 @@ loop-again c =
     let here = getD-places rs vs i c.before.before.before.loop-i-test.true in (
       omega arith,
       c.before.before.before.before.loop-i.invariant.1
-          ∙ all-goes is_blank (places rs vs) i blank (omega (arith, length-places rs vs)) (tested is_blank c.before.same.ensures (c.before.before.read.ensures ∙ sym here) ∙ not-false _ c.if-not-same.false),
+          ∙ all-goes is_blank (places rs vs) i blank (omega (arith, length-places rs vs)) (tested is_blank c.before.same.ensures (c.before.before.read.ensures ∙ sym here) ∙ c.if-not-same.false),
     )
 
 returns-2 : tie.Need-returns invariant-loop decreases-loop

@@ -57,7 +57,7 @@ continues-requires c κs = search rules
 returns : tie.Need-returns-then-not-continues invariant-loop decreases-loop
 returns c =
     let l = c.before.before.before.before.before in let s = l.before.before in
-    run-stops (goes s) s.args.start s.args.count l.loop-i.invariant (told c.before ∙ not-true _ c.if-not-continues.true)
+    run-stops (goes s) s.args.start s.args.count l.loop-i.invariant (told c.before ∙ c.if-not-continues.true)
 
 add-i-2 : tie.Need-overflow_add-i-in-loop-i invariant-loop decreases-loop
 add-i-2 c = search rules
@@ -68,7 +68,7 @@ loop-less c = search rules
 loop-again : tie.Need-loop-i-preserved invariant-loop decreases-loop
 loop-again c =
     let l = c.before.before.before.before.before in let s = l.before.before in
-    run-goes (goes s) s.args.start s.args.count l.loop-i.invariant (omega arith) (told c.before ∙ not-false _ c.if-not-continues.false)
+    run-goes (goes s) s.args.start s.args.count l.loop-i.invariant (omega arith) (told c.before ∙ c.if-not-continues.false)
 
 returns-2 : tie.Need-returns invariant-loop decreases-loop
 returns-2 c =

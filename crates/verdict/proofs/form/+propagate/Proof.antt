@@ -74,7 +74,7 @@ module _ (t : ℕ) (c : propagate-lts.After-propagate-middle (propagate-claims t
   word = get_or start.args.nodes.now start.args.i 0
 
   abbrev now : List ℕ
-  now = c.propagate-middle.new.1.1.0
+  now = c.propagate-middle.new.out
 
   abbrev middle : ℕ
   middle = c.propagate-middle.result
@@ -189,13 +189,13 @@ propagate-propagate-requires-5 t c κs =
     rw (read t d).reads (child-asks s.pre.0 (right-asks k (unit t d) (is_join t d) (middle t d) (left_grown t d).short) (left_grown t d).again)
 
 -- Both subtrees are written.
-right-written : (t : ℕ) (c : propagate-lts.After-propagate-end-in-4 (propagate-claims t) (propagate-at t) propagate.Post) → let d = c.before.before.before.before.before in Done (start t d).args.nodes.now (right (word t d)) (now t d) (middle t d) (c.propagate-end-in-4.result, c.propagate-end-in-4.new.1.1.0)
+right-written : (t : ℕ) (c : propagate-lts.After-propagate-end-in-4 (propagate-claims t) (propagate-at t) propagate.Post) → let d = c.before.before.before.before.before in Done (start t d).args.nodes.now (right (word t d)) (now t d) (middle t d) (c.propagate-end-in-4.result, c.propagate-end-in-4.new.out)
 right-written t c = rw (read t c.before.before.before.before.before.before).reads at c.propagate-end-in-4.ensures
 
 propagate-join-requires : (t : ℕ) → propagate-lts.Need-join-requires (propagate-claims t) (propagate-at t) propagate.Post
 propagate-join-requires t c κs =
     let d = c.before.before.before.before.before.before in let s = start t d in let k = task t s in
-    let g = both-grown k (unit t d) (is_join t d) (now t d) (middle t d) (left-written t d) c.before.propagate-end-in-4.new.1.1.0 c.before.propagate-end-in-4.result (right-written t c.before) in
+    let g = both-grown k (unit t d) (is_join t d) (now t d) (middle t d) (left-written t d) c.before.propagate-end-in-4.new.out c.before.propagate-end-in-4.result (right-written t c.before) in
     let a = right-asks k (unit t d) (is_join t d) (middle t d) (left_grown t d).short in
     ((omega arith, omega arith, (left_grown t d).longer, g.longer, omega (arith, g.short, a.room)), g.again)
 
@@ -221,7 +221,7 @@ propagate-returns-5 t c =
 propagate-returns-6 : (t : ℕ) → propagate-lts.Need-returns-else-top_kind-eq0 (propagate-claims t) (propagate-at t) propagate.Post
 propagate-returns-6 t c =
     let d = c.before.before.before.before.before.before.before in let k = task t (start t d) in
-    join-done k (unit t d) (is_join t d) (now t d) (middle t d) (left-written t d) (kind-not-read c.before.before.before.before.before.fields-top.ensures c.before.before.before.before.if-top_kind-eq0.false) c.before.before.propagate-end-in-4.new.1.1.0 c.before.before.propagate-end-in-4.result (right-written t c.before.before) (rw (read t d).reads at c.join.ensures)
+    join-done k (unit t d) (is_join t d) (now t d) (middle t d) (left-written t d) (kind-not-read c.before.before.before.before.before.fields-top.ensures c.before.before.before.before.if-top_kind-eq0.false) c.before.before.propagate-end-in-4.new.out c.before.before.propagate-end-in-4.result (right-written t c.before.before) (rw (read t d).reads at c.join.ensures)
 
 propagate-returns-7 : (t : ℕ) → propagate-lts.Need-returns-in_default (propagate-claims t) (propagate-at t) propagate.Post
 propagate-returns-7 t c =

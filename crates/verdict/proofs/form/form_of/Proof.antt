@@ -14,7 +14,7 @@ propagate-requires c κs = let s = c.before.before.before in (root-asks s.args.q
 returns : tie.Need-returns
 returns c =
     let s = c.before.before.before.before.before in
-    form_is s.args.query s.requires (c.before.propagate-end.result, c.before.propagate-end.new.1.1.0) c.before.propagate-end.ensures
+    form_is s.args.query s.requires (c.before.propagate-end.result, c.before.propagate-end.new.out) c.before.propagate-end.ensures
 
 pub form_of_spec : {M : Type 1} → statement M
 form_of_spec = tie.close (tie.spec sub-propagate propagate-requires returns)

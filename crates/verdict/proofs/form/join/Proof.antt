@@ -46,7 +46,7 @@ cut-requires c κs = search rules
 returns-2 : tie.Need-returns-then-last-unit
 returns-2 c =
     let f = c.before.before.before.before.before in let s = f.before.before.before.before in let out = s.args.out.now in let end = s.args.end in
-    joined-unit out end (omega arith) (omega arith) s.requires.1 s.args.kind s.args.at s.args.middle (kind-read f.fields-top.ensures c.before.before.before.before.if-top_kind-ne0.false) c.cut.new.0 (omega arith) c.cut.ensures (c.before.before.if-last-unit.true ∙ c.before.before.before.unit.ensures)
+    joined-unit out end (omega arith) (omega arith) s.requires.1 s.args.kind s.args.at s.args.middle (kind-read f.fields-top.ensures c.before.before.before.before.if-top_kind-ne0.false) c.cut.new.out (omega arith) c.cut.ensures (c.before.before.if-last-unit.true ∙ c.before.before.before.unit.ensures)
 
 cut-requires-2 : tie.Need-cut-requires-2
 cut-requires-2 c κs = search rules
@@ -54,13 +54,13 @@ cut-requires-2 c κs = search rules
 push-requires-2 : tie.Need-push-requires-2
 push-requires-2 c κs =
     let s = c.before.before.before.before.before.before.before.before.before.before in let out = s.args.out.now in let end = s.args.end in
-    let now = c.before.cut-2.new.0 in
+    let now = c.before.cut-2.new.out in
     (omega arith, held-again now s.args.at (take s.args.at (take end out)) (held_first out end (omega arith) (omega arith) s.requires.1 now s.args.at (omega arith) c.before.cut-2.ensures))
 
 returns-3 : tie.Need-returns
 returns-3 c =
     let f = c.before.before.before.before.before.before.before in let s = f.before.before.before.before in let out = s.args.out.now in let end = s.args.end in
-    joined-zero out end (omega arith) (omega arith) s.requires.1 s.args.kind s.args.at s.args.middle (kind-read f.fields-top.ensures c.before.before.before.before.before.before.if-top_kind-ne0.false) c.before.before.cut-2.new.0 (omega arith) c.before.before.cut-2.ensures (λ e. c.before.before.before.before.if-last-unit.false (e ∙ sym c.before.before.before.before.before.unit.ensures)) c.push-2.ensures
+    joined-zero out end (omega arith) (omega arith) s.requires.1 s.args.kind s.args.at s.args.middle (kind-read f.fields-top.ensures c.before.before.before.before.before.before.if-top_kind-ne0.false) c.before.before.cut-2.new.out (omega arith) c.before.before.cut-2.ensures (λ e. c.before.before.before.before.if-last-unit.false (e ∙ sym c.before.before.before.before.before.unit.ensures)) c.push-2.ensures
 
 pub join_spec : {M : Type 1} → statement M
 join_spec =
