@@ -101,6 +101,7 @@ def turn(text, path, functions, crate):
     opened = []  # module binders: (indent, {var: (f, place)})
     sigs = {}
     asks = {}
+    gives = {}
     out = []
     for block in blocks:
         head = block[0] if block else ""
@@ -129,6 +130,12 @@ def turn(text, path, functions, crate):
             m = re.match(r"\s*(?:abbrev |unfoldable )?(?:pub )?(" + W + r") :(?: |$)", head)
             if m:
                 sigs[m.group(1)] = body
+                last = re.search(r"(?:→|:) (" + W + r")\.(" + W + r")(?: \([^→]*)?\s*$", body.split("\n" + " " * indent + m.group(1) + " ")[0].rstrip())
+                if last and last.group(1) in aliases:
+                    f = aliases[last.group(1)]
+                    p = name_in(f, last.group(2))[1]
+                    if p:
+                        gives[m.group(1)] = (f, p)
             m = re.match(r"\s*(" + W + r")((?: [^=]*)?) =(?: |$)", head)
             if m and m.group(1) in sigs:
                 sig = sigs[m.group(1)]
@@ -210,6 +217,8 @@ def turn(text, path, functions, crate):
             if var in known:
                 f, p = known[var]
                 q, back, hit = p, 0, None
+                if parts[0] == "pre":
+                    parts[0] = "requires"
                 of_start = norm(parts[0]) not in f.steps
                 while q is not None:
                     step = f.places[q]
@@ -249,9 +258,11 @@ def turn(text, path, functions, crate):
             return whole
 
         # let-bound places and arguments
-        for m in re.finditer(r"let (" + W + r") = (" + W + r")((?:\.before)*) in", body):
+        for m in re.finditer(r"let (" + W + r") = (" + W + r")((?:\.before)*)((?: (?:" + W + r"(?:\." + W + r")*))*?) in", body):
             v, base, n = m.group(1), m.group(2), m.group(3).count(".before")
-            if base in known:
+            if base in gives and m.group(4) and not n:
+                known[v] = gives[base]
+            elif base in known and not m.group(4):
                 f, p = known[base]
                 for _ in range(n):
                     p = f.places[p][1] if p else None

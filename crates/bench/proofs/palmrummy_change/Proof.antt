@@ -84,8 +84,8 @@ returns-2 c =
     let g = changed c in
     let r = g.before.before.before in
     let s = r.before.before.before.before.before.before.args in
-    let e = change-over r.before.before.store_of.ensures r.before.view_of.ensures r.record_of.ensures s.removal s.bytes.now s.joined.now s.left.now in
-    change-done (g.change.ensures ∙ e) c.enum_told-1.given.1
+    let e = change-over r.before.before.store_of-store.ensures r.before.view_of-view.ensures r.record_of-record.ensures s.removal s.bytes.now s.joined.now s.left.now in
+    change-done (g.change-changed.ensures ∙ e) c.enum_told-1.given.1
 
 pub palmrummy_change_spec : {M : Type 1} → statement M
 palmrummy_change_spec =

@@ -187,7 +187,7 @@ returns c =
     let e₄₈ = l₅.long-5.ensures ∙ front-run (until-40 v) zeros _ 40 e₄₀ refl (long_bytes v.unranged) in
     e.query.ensures
     ∙ front-run (until-48 v) zeros _ 48 e₄₈ refl (form_bytes v.form)
-    ∙ front-padded verdict_size (until-48 v ++ form_bytes v.form) (omega (arith, length-query v.form s.pre.1))
+    ∙ front-padded verdict_size (until-48 v ++ form_bytes v.form) (omega (arith, length-query v.form s.requires.1))
     ∙ ap (λ bs. padded verdict_size 0 (bs ++ form_bytes v.form)) (all-fields v (variables-long s) (generators-long s))
 
 pub written_spec : {M : Type 1} → statement M

@@ -150,13 +150,13 @@ head-requires c κs = let a = c.before.before in let k = ready a.before.before (
 endless-requires : tie.Need-endless-requires
 endless-requires c κs =
     let d = c.before.before in let a = accepted d in
-    let e = head-ends (listing d) a.enum_told.given.1 d.head-at.result d.head-at.new.out d.head-at.ensures in
+    let e = head-ends (listing d) a.enum_told-1.given.1 d.head-at.result d.head-at.new.out d.head-at.ensures in
     (omega (arith, e), omega (arith, e))
 
 returns-2 : tie.Need-returns-then-listing
 returns-2 c =
     let i = c.before.before in let d = i.before in let a = accepted d in
-    endless-done (listing d) a.enum_told.given.1 d.head-at.result d.head-at.new.out d.head-at.ensures c.endless.result c.endless.new.out i.if-listing.true c.endless.ensures
+    endless-done (listing d) a.enum_told-1.given.1 d.head-at.result d.head-at.new.out d.head-at.ensures c.endless.result c.endless.new.out i.if-listing.true c.endless.ensures
 
 slice-aggregate-rows : tie.Need-slice_bounds-rows-end
 slice-aggregate-rows c = search rules
@@ -164,20 +164,20 @@ slice-aggregate-rows c = search rules
 rows-requires : tie.Need-rows-end-requires
 rows-requires c κs =
     let i = c.before.before in let d = i.before in let a = accepted d in let k = listing d in
-    let e = head-ends k a.enum_told.given.1 d.head-at.result d.head-at.new.out d.head-at.ensures in
-    let f = fits k a.enum_told.given.1 i.if-listing.false in
+    let e = head-ends k a.enum_told-1.given.1 d.head-at.result d.head-at.new.out d.head-at.ensures in
+    let f = fits k a.enum_told-1.given.1 i.if-listing.false in
     (f.0, omega (arith, f.1, k.held), omega (arith, k.held), omega (arith, e, f), omega (arith, e))
 
 total-requires : tie.Need-total-requires
 total-requires c κs =
     let b = c.before in let i = b.before.before.before in let d = i.before in let a = accepted d in let k = listing d in
-    let e = rows_end k a.enum_told.given.1 d.head-at.result d.head-at.new.out d.head-at.ensures i.if-listing.false b.rows-end.result b.rows-end.new.out b.rows-end.ensures in
-    ((fits k a.enum_told.given.1 i.if-listing.false).0, omega (arith, e), omega (arith, e))
+    let e = rows_end k a.enum_told-1.given.1 d.head-at.result d.head-at.new.out d.head-at.ensures i.if-listing.false b.rows-end.result b.rows-end.new.out b.rows-end.ensures in
+    ((fits k a.enum_told-1.given.1 i.if-listing.false).0, omega (arith, e), omega (arith, e))
 
 returns-3 : tie.Need-returns
 returns-3 c =
     let b = c.before.before in let i = b.before.before.before in let d = i.before in let a = accepted d in
-    rows-done (listing d) a.enum_told.given.1 d.head-at.result d.head-at.new.out d.head-at.ensures i.if-listing.false b.rows-end.result b.rows-end.new.out b.rows-end.ensures c.total.result c.total.new.out c.total.ensures
+    rows-done (listing d) a.enum_told-1.given.1 d.head-at.result d.head-at.new.out d.head-at.ensures i.if-listing.false b.rows-end.result b.rows-end.new.out b.rows-end.ensures c.total.result c.total.new.out c.total.ensures
 
 pub print_spec : {M : Type 1} → statement M
 print_spec =

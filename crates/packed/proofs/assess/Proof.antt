@@ -42,10 +42,10 @@ enum_told : tie.Need-enum_told-1
 enum_told c = search rules
 
 judged-requires : tie.Need-judged-requires
-judged-requires c κs = let i = taken c in judged-asks (bytes i) i.take.result i.take.ensures c.enum_told-1.given.1 (λ k. (constant-fits i k).fits)
+judged-requires c κs = let i = taken c in judged-asks (bytes i) i.take-input.result i.take-input.ensures c.enum_told-1.given.1 (λ k. (constant-fits i k).fits)
 
 returns-2 : tie.Need-returns
-returns-2 c = let t = c.before in let i = taken t in judged-input (bytes i) i.take.result i.take.ensures t.enum_told-1.given.1 c.judged.result c.judged.ensures
+returns-2 c = let t = c.before in let i = taken t in judged-input (bytes i) i.take-input.result i.take-input.ensures t.enum_told-1.given.1 c.judged.result c.judged.ensures
 
 pub assess_spec : {M : Type 1} → statement M
 assess_spec = tie.close (tie.spec take-requires enum-known-answer refused-requires returns enum_told judged-requires returns-2)

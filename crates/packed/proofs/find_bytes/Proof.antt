@@ -52,7 +52,7 @@ enum_told c = search rules
 evaluate-bytes-requires : tie.Need-evaluate_bytes-found-requires
 evaluate-bytes-requires c κs =
     let e = c.before.before.before.before in let a = assessed e in
-    evaluable (bytes a) a.assess.result a.assess.ensures e.enum_told-1.given.1 (λ k. (constant-fits a k).fits)
+    evaluable (bytes a) a.assess-assessment.result a.assess-assessment.ensures e.enum_told-1.given.1 (λ k. (constant-fits a k).fits)
 
 list-requires : tie.Need-list-requires
 list-requires c κs = search rules
@@ -64,7 +64,7 @@ returns-2 : tie.Need-returns
 returns-2 c =
     let f = c.before.before.before in let e = f.before.before.before.before.before in let a = assessed e in let after = f.evaluate_bytes-found.new.out in
     ap (λ l. (l, after)) c.list.ensures
-    ∙ list-given (bytes a) a.assess.result a.assess.ensures e.enum_told-1.given.1 (λ k. (constant-fits a k).fits) front_bytes (length (out a) / 4) (out a) f.evaluate_bytes-found.result after f.evaluate_bytes-found.ensures
+    ∙ list-given (bytes a) a.assess-assessment.result a.assess-assessment.ensures e.enum_told-1.given.1 (λ k. (constant-fits a k).fits) front_bytes (length (out a) / 4) (out a) f.evaluate_bytes-found.result after f.evaluate_bytes-found.ensures
 
 pub find_bytes_spec : {M : Type 1} → statement M
 find_bytes_spec = tie.close (tie.spec assess-requires enum-known-answer refused-listing-requires returns enum_told evaluate-bytes-requires list-requires same_length returns-2)

@@ -45,10 +45,10 @@ measured c = c.before.before
 whole : (c : tie.Else-not-extent) → is_whole (bytes (measured c)) ≡ true
 whole c =
     let m = measured c in
-    sym (extent-whole (bytes m)) ∙ ap (λ e. e.whole) (sym m.measure.ensures) ∙ not-false m.measure.result.whole c.if-not-extent.false
+    sym (extent-whole (bytes m)) ∙ ap (λ e. e.whole) (sym m.measure-extent.ensures) ∙ not-false m.measure-extent.result.whole c.if-not-extent.false
 
 heads : (c : tie.Else-not-extent) → (measured c).measure.result.head ≡ head_in (bytes (measured c))
-heads c = let m = measured c in ap (λ e. e.head) m.measure.ensures ∙ extent-head (bytes m) (whole c)
+heads c = let m = measured c in ap (λ e. e.head) m.measure-extent.ensures ∙ extent-head (bytes m) (whole c)
 
 counts : (c : tie.Else-not-extent) → (measured c).measure.result.head.count ≡ count_in (bytes (measured c))
 counts c = ap (λ h. h.count) (heads c)

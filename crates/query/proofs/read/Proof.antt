@@ -96,7 +96,7 @@ abbrev began : tie.After-tree-tree → tie.Start
 began c = start (told (counts (words c)))
 
 judged : (c : tie.After-tree-tree) → c.tree.result ≡ first_cause (trees (began c))
-judged c = let w = words c in judged-nodes (fits (counts w)) (nodes w) w.words2.ensures (widths (began c)) c.tree-tree.result c.tree-tree.ensures
+judged c = let w = words c in judged-nodes (fits (counts w)) (nodes w) w.words-2.ensures (widths (began c)) c.tree-tree.result c.tree-tree.ensures
 
 placed : (c : tie.In_default-tree) → Done ≡ first_cause (trees (began c.before.before))
 placed c = sym c.enum_told-in_default-tree-1.given.1 ∙ judged c.before.before

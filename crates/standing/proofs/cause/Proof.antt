@@ -26,7 +26,7 @@ returns-2 c =
     sym (left-past s.joined s.left s.n s.m s.k s.a s.b t.ranges.joined.fits o.if-joined-n.false c.if-left-m.true)
 
 mul-if3 : tie.Need-overflow_mul-n
-mul-if3 c = let t = tested c in let p = few-numbers t.args.n t.args.k t.pre.0 t.pre.2 in record { fits = omega (arith, p) }
+mul-if3 c = let t = tested c in let p = few-numbers t.args.n t.args.k t.requires.0 t.requires.2 in record { fits = omega (arith, p) }
 
 returns-3 : tie.Need-returns-then-a-n
 returns-3 c =
@@ -34,7 +34,7 @@ returns-3 c =
     sym (joined-exceed s.joined s.left s.n s.m s.k s.a s.b t.fits.joined.fits o.before.if-joined-n.false t.fits.left.fits o.if-left-m.false c.if-a-n.true)
 
 mul-if4 : tie.Need-overflow_mul-m
-mul-if4 c = let t = tested c.before in let p = few-numbers t.args.m t.args.k t.pre.1 t.pre.2 in record { fits = omega (arith, p) }
+mul-if4 c = let t = tested c.before in let p = few-numbers t.args.m t.args.k t.requires.1 t.requires.2 in record { fits = omega (arith, p) }
 
 returns-4 : tie.Need-returns-then-b-m
 returns-4 c =

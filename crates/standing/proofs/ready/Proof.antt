@@ -33,10 +33,10 @@ abbrev beginning : tie.In_default → tie.After-begin-reading
 beginning c = c.before.before.before
 
 done : (c : tie.In_default) → let b = beginning c in first_cause (begin_checks (store b) (bytes b)) ≡ Done
-done c = let b = beginning c in begun-cause (store b) (bytes b) Done (ap (λ r. r.answer) (sym b.begin.ensures) ∙ c.enum_told-in_default-1.given.1)
+done c = let b = beginning c in begun-cause (store b) (bytes b) Done (ap (λ r. r.answer) (sym b.begin-reading.ensures) ∙ c.enum_told-in_default-1.given.1)
 
-reads : (c : tie.In_default) → let b = beginning c in b.begin.result ≡ read_of (store b).widths (bytes b)
-reads c = let b = beginning c in b.begin.ensures ∙ begun-is (store b) (bytes b) (done c)
+reads : (c : tie.In_default) → let b = beginning c in b.begin-reading.result ≡ read_of (store b).widths (bytes b)
+reads c = let b = beginning c in b.begin-reading.ensures ∙ begun-is (store b) (bytes b) (done c)
 
 -- What the list is judged to be.
 judgement-is : (c : tie.After-suits) → let b = beginning c.before in c.suits.result ≡ suits (start b).args.view (columns (formula (query_read (store b) (bytes b))))
@@ -68,7 +68,7 @@ suits-requires c κs =
 returns-2 : tie.Need-returns-then-suits
 returns-2 c =
     let t = c.before.before in let b = beginning t in
-    b.begin.ensures ∙ readied-suited (store b) (bytes b) (start b).args.view (done t) (sym (judgement-is c.before) ∙ c.if-suits.true)
+    b.begin-reading.ensures ∙ readied-suited (store b) (bytes b) (start b).args.view (done t) (sym (judgement-is c.before) ∙ c.if-suits.true)
 
 refused-requires : tie.Need-refused-requires
 refused-requires c κs = search rules

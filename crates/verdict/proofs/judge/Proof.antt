@@ -43,13 +43,13 @@ done c = ap (λ r. r.answer) (sym (reading c).read.ensures) ∙ c.enum_told-1.gi
 accepted : (c : tie.In_default) → Accepted (widths (reading c)) (query c)
 accepted c =
     let r = reading c in
-    subst⁻¹ (λ v. Accepted (widths r) v.query) r.read.ensures
-    (reading-accepted (widths r) (bytes r) (subst (λ v. (i : ℕ) → get_or v.query.constants i 0 < 2 ^ 32) r.read.ensures (λ i. (constant-fits r i).fits)) (done c))
+    subst⁻¹ (λ v. Accepted (widths r) v.query) r.read-reading.ensures
+    (reading-accepted (widths r) (bytes r) (subst (λ v. (i : ℕ) → get_or v.query.constants i 0 < 2 ^ 32) r.read-reading.ensures (λ i. (constant-fits r i).fits)) (done c))
 
 found-columns : (c : tie.In_default) → (reading c).read.result.columns ≡ columns_of (columns (formula (query c)))
 found-columns c =
     let r = reading c in
-    subst⁻¹ (λ v. v.columns ≡ columns_of (columns (formula v.query))) r.read.ensures (read-columns (widths r) (bytes r) (done c))
+    subst⁻¹ (λ v. v.columns ≡ columns_of (columns (formula v.query))) r.read-reading.ensures (read-columns (widths r) (bytes r) (done c))
 
 -- ---- the needs
 
@@ -76,7 +76,7 @@ judged-requires c κs = ((widths (reading c), accepted c), found-columns c)
 returns-2 : tie.Need-returns
 returns-2 c =
     let r = reading c.before in
-    c.judged.ensures ∙ ap (λ v. judged v.query) r.read.ensures ∙ sym (verdict-done (widths r) (bytes r) (done c.before))
+    c.judged.ensures ∙ ap (λ v. judged v.query) r.read-reading.ensures ∙ sym (verdict-done (widths r) (bytes r) (done c.before))
 
 pub judge_spec : {M : Type 1} → statement M
 judge_spec = tie.close (tie.spec read-requires enum-known-answer refused-requires returns enum_told judged-requires returns-2)

@@ -72,8 +72,8 @@ finished : (c : tie.After-unranged-unranged) (b : Bool) → let u = c.before.bef
     reply f.form_of.result (given-columns f.before) (reported c).generators.result u w b ≡ judged (query f.before)
 finished c b e =
     let g = reported c in let f = formed (sets g) in let s = f.before in let a = accepted s in
-    assembled a.0 (query s) a.1 f.form_of.result (given-columns s) g.generators.result c.before.before.before.ungenerated-ungenerated.result c.unranged-unranged.result b
-    f.form_of.ensures (columns-right s) g.generators.ensures
+    assembled a.0 (query s) a.1 f.form_of.result (given-columns s) g.generators-generators.result c.before.before.before.ungenerated-ungenerated.result c.unranged-unranged.result b
+    f.form_of.ensures (columns-right s) g.generators-generators.ensures
     (c.before.before.before.ungenerated-ungenerated.ensures ∙ ap (λ m. missing_from m (variables_in (given-columns s))) (root-set g))
     c.unranged-unranged.ensures e
 
@@ -104,7 +104,7 @@ ungenerated-requires c κs = few_columns (formed (sets c)).before
 
 unranged-requires : tie.Need-unranged-unranged-requires
 unranged-requires c κs =
-    let s = sets c.before.before.before in (is-form (formed s), ap (λ v. v.plains) s.generated.ensures)
+    let s = sets c.before.before.before in (is-form (formed s), ap (λ v. v.plains) s.generated-sets.ensures)
 
 returns : tie.Need-returns-then-ungenerated-eq0
 returns c =

@@ -98,10 +98,10 @@ digits-add-out : (t : ℕ) → digits-lts.Need-overflow_add-out (digits-claims t
 digits-add-out t c = search rules
 
 digits-slice-write-out : (t : ℕ) → digits-lts.Need-bounds-out-end (digits-claims t) (digits-at t) digits'.Post
-digits-slice-write-out t c = let s = start t c in omega (arith, ends t c, kept t c, s.pre.1)
+digits-slice-write-out t c = let s = start t c in omega (arith, ends t c, kept t c, s.requires.1)
 
 digits-add-result : (t : ℕ) → digits-lts.Need-overflow_add-result (digits-claims t) (digits-at t) digits'.Post
-digits-add-result t c = let s = start t c.before in record { fits = omega (arith, ends t c.before, s.pre.1) }
+digits-add-result t c = let s = start t c.before in record { fits = omega (arith, ends t c.before, s.requires.1) }
 
 digits-same-length : (t : ℕ) → digits-lts.Need-shape_of-out (digits-claims t) (digits-at t) digits'.Post
 digits-same-length t c = simp length-set (kept t c.before)

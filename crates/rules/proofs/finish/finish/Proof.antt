@@ -41,7 +41,7 @@ returns-3 c =
 quantify-requires : tie.Need-quantify-end-requires
 quantify-requires c κs =
     let m = c.before.before.before in let s = start m in let i = m.before.before.before in
-    (s.pre.0 i.before.if-h.false, s.pre.2 i.if-b.false, s.pre.1.nodes_small)
+    (s.requires.0 i.before.if-h.false, s.requires.2 i.if-b.false, s.requires.1.nodes_small)
 
 refused-requires-4 : tie.Need-refused-requires-then-end-gt-NODES
 refused-requires-4 c κs = search rules
@@ -53,7 +53,7 @@ returns-4 c =
     q.quantify-end.result q.quantify-end.new.nodes q.quantify-end.ensures c.before.if-end-gt-NODES.true c.refused-then-end-gt-NODES.result c.refused-then-end-gt-NODES.ensures
 
 packed-requires : tie.Need-packed-requires
-packed-requires c κs = let m = c.before.before.before.before.before in let s = start m in (s.pre.1.constants_small, c.if-end-gt-NODES.false)
+packed-requires c κs = let m = c.before.before.before.before.before in let s = start m in (s.requires.1.constants_small, c.if-end-gt-NODES.false)
 
 returns-5 : tie.Need-returns
 returns-5 c =

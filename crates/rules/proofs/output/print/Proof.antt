@@ -55,7 +55,7 @@ returns : tie.Need-returns-in-Refused
 returns c =
     let k = refused c.before in let a = (start k).args in
     let few : c.refusal.result ≤ 33 = c.refusal.ensures.1 in (
-      printed-refused a.text.now k.pack.result k.pack.ensures a.out.now _ _ c.refusal.result c.refusal.new.out c.before.before.before.answer-1.given.1
+      printed-refused a.text.now k.pack-p.result k.pack-p.ensures a.out.now _ _ c.refusal.result c.refusal.new.out c.before.before.before.answer-1.given.1
           (omega (arith, few, refused-sized c.before)) c.refusal.ensures.0,
       omega (arith, few),
     )
@@ -71,9 +71,9 @@ bytes-requires c κs = let k = packed c in omega (arith, taken k, short k, packe
 
 returns-2 : tie.Need-returns
 returns-2 c =
-    let k = packed c.before in let a = (start k).args in let q = k.pack.result in
+    let k = packed c.before in let a = (start k).args in let q = k.pack-p.result in
     let few : c.bytes.result ≤ max_bytes = omega (arith, taken k, short k, wrote-end 0 c.bytes.result (take q.size q.bytes) a.out.now c.bytes.new.out c.bytes.ensures) in (
-      printed-packed a.text.now q k.pack.ensures a.out.now c.bytes.result c.bytes.new.out c.before.before.before.before.before.enum_told-1.given.1
+      printed-packed a.text.now q k.pack-p.ensures a.out.now c.bytes.result c.bytes.new.out c.before.before.before.before.before.enum_told-1.given.1
           (omega (arith, few, packed-sized c.before)) c.bytes.ensures,
       few,
     )

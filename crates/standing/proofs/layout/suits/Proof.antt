@@ -89,7 +89,7 @@ all-ascend-requires : tie.Need-all_ascend-requires
 all-ascend-requires c κs = search rules
 
 returns-4 : tie.Need-returns-then-not-all_ascend
-returns-4 c = let f = c.before.before.before in let t = counted f in suits-unordered (list t) (columns t) (asked (agreed t)).requires (same-columns (agreed t)) t.if2.left (all-ended f) (sym c.before.all_ascend.ensures ∙ c.if-not-all_ascend.true)
+returns-4 c = let f = c.before.before.before in let t = counted f in suits-unordered (list t) (columns t) (asked (agreed t)).requires (same-columns (agreed t)) t.if-count-gt-ROWS.left (all-ended f) (sym c.before.all_ascend.ensures ∙ c.if-not-all_ascend.true)
 
 rest-zero-requires : tie.Need-rest_zero-requires
 rest-zero-requires c κs = search rules
@@ -98,13 +98,13 @@ returns-5 : tie.Need-returns-then-not-rest_zero
 returns-5 c = let g = c.before.before.before in let t = counted (ended g) in suits-full (list t) (columns t) (asked (agreed t)).requires (same-columns (agreed t)) t.if2.left (all-ended (ended g)) (all-ordered g) (sym c.before.rest_zero.ensures ∙ c.if-not-rest_zero.true)
 
 returns-6 : tie.Need-returns-then-count-gt0
-returns-6 c = let g = c.before.before in let t = held g in suits-marked (list t) (columns t) (asked (agreed t)).requires (same-columns (agreed t)) t.if2.left (all-ended (ended (ordered g))) (all-ordered (ordered g)) (rest-is-zero g) (λ i. c.before.if-view.true i && c.if-count-gt0.true i)
+returns-6 c = let g = c.before.before in let t = held g in suits-marked (list t) (columns t) (asked (agreed t)).requires (same-columns (agreed t)) t.if-count-gt-ROWS.left (all-ended (ended (ordered g))) (all-ordered (ordered g)) (rest-is-zero g) (λ i. c.before.if-view.true i && c.if-count-gt0.true i)
 
 add-up-requires : tie.Need-add_up-requires
 add-up-requires c κs = search rules
 
 returns-7 : tie.Need-returns
-returns-7 c = let g = c.before.before in let t = held g in suits-balanced (list t) (columns t) (asked (agreed t)).requires (same-columns (agreed t)) t.if2.left (all-ended (ended (ordered g))) (all-ordered (ordered g)) (rest-is-zero g) (no-rows-marked c.before) c.add_up.ensures
+returns-7 c = let g = c.before.before in let t = held g in suits-balanced (list t) (columns t) (asked (agreed t)).requires (same-columns (agreed t)) t.if-count-gt-ROWS.left (all-ended (ended (ordered g))) (all-ordered (ordered g)) (rest-is-zero g) (no-rows-marked c.before) c.add_up.ensures
 
 pub suits_spec : {M : Type 1} → statement M
 suits_spec =

@@ -108,12 +108,12 @@ propagate-equality-requires t c κs = search rules
 
 propagate-push-requires : (t : ℕ) → propagate-lts.Need-push-requires (propagate-claims t) (propagate-at t) propagate.Post
 propagate-push-requires t c κs =
-    let s = begun t c.before.before.before in (at-below (task t s), s.pre.1.1)
+    let s = begun t c.before.before.before in (at-below (task t s), s.requires.1.1)
 
 propagate-propagate-requires : (t : ℕ) → propagate-lts.Need-propagate-end-requires (propagate-claims t) (propagate-at t) propagate.Post
 propagate-propagate-requires t c κs =
     let f = c.before.before in let s = begun t f in let n = node t f in
-    rw n.reads (child-asks s.pre.0 (not-asks (task t s) (kind-read n c.before.in-3.keys2)) s.pre.1.1)
+    rw n.reads (child-asks s.requires.0 (not-asks (task t s) (kind-read n c.before.in-3.keys2)) s.requires.1.1)
 
 propagate-negate-requires : (t : ℕ) → propagate-lts.Need-negate-requires (propagate-claims t) (propagate-at t) propagate.Post
 propagate-negate-requires t c κs =
@@ -124,7 +124,7 @@ propagate-negate-requires t c κs =
 propagate-propagate-requires-2 : (t : ℕ) → propagate-lts.Need-propagate-end-requires-in-6 (propagate-claims t) (propagate-at t) propagate.Post
 propagate-propagate-requires-2 t c κs =
     let f = c.before.before in let s = begun t f in let n = node t f in
-    rw n.reads (child-asks s.pre.0 (exists-asks (task t s) (kind-read n c.before.in-6.keys3)) s.pre.1.1)
+    rw n.reads (child-asks s.requires.0 (exists-asks (task t s) (kind-read n c.before.in-6.keys3)) s.requires.1.1)
 
 propagate-quantify-requires : (t : ℕ) → propagate-lts.Need-quantify-requires (propagate-claims t) (propagate-at t) propagate.Post
 propagate-quantify-requires t c κs =
@@ -135,7 +135,7 @@ propagate-quantify-requires t c κs =
 propagate-propagate-requires-3 : (t : ℕ) → propagate-lts.Need-propagate-middle-requires (propagate-claims t) (propagate-at t) propagate.Post
 propagate-propagate-requires-3 t c κs =
     let f = c.before.before.before.before in let s = begun t f in let u = join-of t c.before in
-    rw (node t f).reads (child-asks s.pre.0 (left-asks (task t s) u.0 u.1) s.pre.1.1)
+    rw (node t f).reads (child-asks s.requires.0 (left-asks (task t s) u.0 u.1) s.requires.1.1)
 
 propagate-sub-first : (t : ℕ) → propagate-lts.Need-overflow_sub-first (propagate-claims t) (propagate-at t) propagate.Post
 propagate-sub-first t c = omega (arith, (left_grown t c).longer)
@@ -175,7 +175,7 @@ propagate-propagate-requires-4 : (t : ℕ) → propagate-lts.Need-propagate-requ
 propagate-propagate-requires-4 t c κs =
     let d = c.before.before.before.before.before.before in let s = start t d in let k = task t s in
     rw (read t d).reads
-    (child-asks s.pre.0 (right-asks k (unit t d) (is_join t d) s.args.at (omega arith))
+    (child-asks s.requires.0 (right-asks k (unit t d) (is_join t d) s.args.at (omega arith))
     (cleared-zeros k (unit t d) (is_join t d) (now t d) (middle t d) (left-written t d) (first-truth t c.before.before.before) (c.before.if-first-unit.false ∙ dropped t c.before.before)))
 
 propagate-returns-2 : (t : ℕ) → propagate-lts.Need-returns-then-top_kind-eq0 (propagate-claims t) (propagate-at t) propagate.Post
@@ -186,7 +186,7 @@ propagate-returns-2 t c =
 propagate-propagate-requires-5 : (t : ℕ) → propagate-lts.Need-propagate-end-requires-in-4 (propagate-claims t) (propagate-at t) propagate.Post
 propagate-propagate-requires-5 t c κs =
     let d = c.before.before.before.before in let s = start t d in let k = task t s in
-    rw (read t d).reads (child-asks s.pre.0 (right-asks k (unit t d) (is_join t d) (middle t d) (left_grown t d).short) (left_grown t d).again)
+    rw (read t d).reads (child-asks s.requires.0 (right-asks k (unit t d) (is_join t d) (middle t d) (left_grown t d).short) (left_grown t d).again)
 
 -- Both subtrees are written.
 right-written : (t : ℕ) (c : propagate-lts.After-propagate-end-in-4 (propagate-claims t) (propagate-at t) propagate.Post) → let d = c.before.before.before.before.before in Done (start t d).args.nodes.now (right (word t d)) (now t d) (middle t d) (c.propagate-end-in-4.result, c.propagate-end-in-4.new.out)
@@ -201,7 +201,7 @@ propagate-join-requires t c κs =
 
 propagate-push-requires-2 : (t : ℕ) → propagate-lts.Need-push-requires-in_default (propagate-claims t) (propagate-at t) propagate.Post
 propagate-push-requires-2 t c κs =
-    let s = begun t c.before.before.before in (at-below (task t s), s.pre.1.1)
+    let s = begun t c.before.before.before in (at-below (task t s), s.requires.1.1)
 
 propagate-returns-3 : (t : ℕ) → propagate-lts.Need-returns-in-2 (propagate-claims t) (propagate-at t) propagate.Post
 propagate-returns-3 t c =
