@@ -13,14 +13,14 @@ import os
 import re
 import sys
 
-W = r"[^\s(){}.;,@\"«»\[\]\\:]+"
+W = r"(?:«\w+»|[^\s(){}.;,@\"«»\[\]\\:]+)"
 ALIAS = re.compile(r"use (Rattle\.\S+)\.(Tie|Lts(?:-" + W + r")?) as (" + W + r")")
 CHAIN = re.compile(r"(?<![\w'.·-])(" + W + r")((?:\.before)*)((?:\." + W + r")*)")
 left = []
 
 
 def norm(x):
-    return x.replace("_", "-")
+    return x.replace("_", "-").lower().strip("«»")
 
 
 class Function:
@@ -129,6 +129,7 @@ def turn(text, path, functions, crate):
         else:
             m = re.match(r"\s*(?:abbrev |unfoldable )?(?:pub )?(" + W + r") :(?: |$)", head)
             if m:
+                known.update(binders(body))
                 sigs[m.group(1)] = body
                 last = re.search(r"(?:→|:) (" + W + r")\.(" + W + r")(?: \([^→]*)?\s*$", body.split("\n" + " " * indent + m.group(1) + " ")[0].rstrip())
                 if last and last.group(1) in aliases:
@@ -245,6 +246,8 @@ def turn(text, path, functions, crate):
                     hit = befores
                 elif not of_start:
                     parts[0] = f.places[q][3]
+                    if parts[0].startswith("in-") and len(parts) > 1 and re.fullmatch(r"keys\d*", parts[1]):
+                        parts[1] = "is"
                 befores = hit
                 for k, v in f.args.items():
                     k, v = k.strip().split(" ."), v.strip().split(" .")
@@ -269,7 +272,18 @@ def turn(text, path, functions, crate):
                 if p:
                     known[v] = (f, p)
         if not head.startswith(("use ", "--")):
-            body = CHAIN.sub(chain, body)
+            m = re.fullmatch(r"(\s*(" + W + r")(?: [^=]*)? = )(" + W + r")((?:\.before)*)\s*", body)
+            if m and m.group(2) in gives and m.group(3) in known and known[m.group(3)][0] is gives[m.group(2)][0]:
+                f, p = known[m.group(3)]
+                q, back = p, 0
+                while q is not None and q != gives[m.group(2)][1]:
+                    q, back = f.places[q][1], back + 1
+                if q is not None:
+                    body = m.group(1) + m.group(3) + ".before" * back
+                else:
+                    left.append(f"{path}: {body}: no {gives[m.group(2)][1]} before {p}")
+            else:
+                body = CHAIN.sub(chain, body)
             for m in re.finditer(r"let (" + W + r") = [^=]*?\.args in", body):
                 argument.add(m.group(1))
             for v in argument:

@@ -13,13 +13,12 @@ use Rattle.bench.proofs.palmrummy_change.Statement.{statement}
 use Rattle.bench.proofs.palmrummy_change.Tie as tie
 
 -- The list made of the arrays has four places for columns.
-places : (v : tie.After-view_of-view) → length v.view_of.result.columns.variables ≡ 4
+places : (v : tie.After-view_of-view) → length v.view_of-view.result.columns.variables ≡ 4
 places v = search rules
 
 -- At most `max_rows` rows joined, and at most as many left.
 abbrev changed : tie.In_default → tie.After-change-changed
 changed c = c.before.before.before.before.before.before
-
 few : (c : tie.In_default) → ((changed c).change.result.joined ≤ max_rows) × ((changed c).change.result.left ≤ max_rows)
 few c =
     let r = (changed c).before.before.before in

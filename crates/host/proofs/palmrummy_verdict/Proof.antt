@@ -8,7 +8,7 @@ use Rattle.host.specs.Entry.Laws.{verdict-refused, verdict-place, verdict-writte
 use Rattle.host.proofs.palmrummy_verdict.Statement.{statement}
 use Rattle.host.proofs.palmrummy_verdict.Tie as tie
 
-constant-fits : (c : tie.After-judge-v) (i : ℕ) → Fits w32 (get_or c.judge.result.form.constants i 0)
+constant-fits : (c : tie.After-judge-v) (i : ℕ) → Fits w32 (get_or c.judge-v.result.form.constants i 0)
 constant-fits c i = search rules
 
 judge-requires : tie.Need-judge-v-requires

@@ -20,8 +20,7 @@ places s = search rules
 -- The line of the verdict is written.
 module _ (c : tie.After-verdict-at) where
   abbrev start : tie.Start
-  start = c
-
+  start = c.before.before.before
   abbrev judged : List ℕ
   judged = line (cond start.args.safe word_safe word_unsafe) []
 

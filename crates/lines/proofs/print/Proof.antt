@@ -96,7 +96,6 @@ module _ {bs room : List ℕ} {l : Listing} {after out : List ℕ} (k : Ready bs
 
 abbrev start : tie.After-numbers-2-1 → tie.Start
 start c = c.before.before.before.before.before
-
 abbrev lent : tie.After-numbers-2-1 → List ℕ
 lent c = c.before.before.before.room-numbers.result
 
@@ -107,19 +106,18 @@ sized-refusal c = search rules
 sized-head : (c : tie.After-head-arg-1) → length (start c.before.before.before.before).args.out.now ≡ 65536
 sized-head c = search rules
 
-held : (c : tie.After-numbers-2-1) → length c.before.find.new.1.0 ≡ 4096
+held : (c : tie.After-numbers-2-1) → length c.before.find-listing.new.out ≡ 4096
 held c = search rules
 
-places : (c : tie.After-numbers-2-1) → length c.before.find.result.columns.variables ≡ 4
+places : (c : tie.After-numbers-2-1) → length c.before.find-listing.result.columns.variables ≡ 4
 places c = search rules
 
-ready : (c : tie.After-numbers-2-1) → length (start c).args.out.now ≡ 65536 → Ready (start c).args.input.now (lent c) c.before.find.result c.before.find.new.1.0 (start c).args.out.now
+ready : (c : tie.After-numbers-2-1) → length (start c).args.out.now ≡ 65536 → Ready (start c).args.input.now (lent c) c.before.find-listing.result c.before.find-listing.new.out (start c).args.out.now
 ready c s = record { room-size = ap length c.before.before.before.room-numbers.ensures ∙ length-replicate {A = ℕ} 4096 0; reply = c.before.find-listing.ensures; places = places c; held = held c; size = s }
 
 -- The query is accepted; the first two lines are written.
 abbrev accepted : tie.After-head-at → tie.In_default
 accepted c = c.before.before.before
-
 listing : (c : tie.After-head-at) → let r = (accepted c).before.before in Ready (start r).args.input.now (lent r) r.before.find.result r.before.find.last.1.0 (start r).args.out.now
 listing c = ready (accepted c).before.before (sized-head c.before)
 

@@ -15,13 +15,12 @@ use Rattle.packed.proofs.assess.Tie as tie
 abbrev bytes : tie.After-take-input → List ℕ
 bytes c = c.before.before.args.bytes.now
 
-constant-fits : (c : tie.After-take-input) (k : ℕ) → Fits w32 (get_or c.take.result.query.constants k 0)
+constant-fits : (c : tie.After-take-input) (k : ℕ) → Fits w32 (get_or c.take-input.result.query.constants k 0)
 constant-fits c k = search rules
 
 -- It is accepted.
 abbrev taken : tie.In_default → tie.After-take-input
 taken c = c.before.before.before.before.before
-
 -- ---- the needs
 
 take-requires : tie.Need-take-input-requires

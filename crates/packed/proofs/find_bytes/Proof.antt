@@ -16,20 +16,18 @@ use Rattle.packed.proofs.find_bytes.Tie as tie
 -- The input is assessed.
 abbrev start : tie.After-assess-assessment → tie.Start
 start c = c.before.before.before
-
 abbrev bytes : tie.After-assess-assessment → List ℕ
 bytes c = (start c).args.bytes.now
 
 abbrev out : tie.After-assess-assessment → List ℕ
 out c = (start c).args.out.now
 
-constant-fits : (c : tie.After-assess-assessment) (k : ℕ) → Fits w32 (get_or c.assess.result.verdict.form.constants k 0)
+constant-fits : (c : tie.After-assess-assessment) (k : ℕ) → Fits w32 (get_or c.assess-assessment.result.verdict.form.constants k 0)
 constant-fits c k = search rules
 
 -- It is accepted.
 abbrev assessed : tie.In_default → tie.After-assess-assessment
 assessed c = c.before.before.before
-
 -- ---- the needs
 
 assess-requires : tie.Need-assess-assessment-requires

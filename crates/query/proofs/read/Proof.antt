@@ -64,7 +64,6 @@ trees s = tree_checks (widths s) (count_of_constants (bytes s)) (nodes_of (bytes
 -- The header is passed.
 abbrev start : tie.In_default → tie.Start
 start c = c.before.before.before.before
-
 passed : (c : tie.In_default) → Done ≡ first_cause (header_checks (widths (start c)) (bytes (start c)))
 passed c = sym c.enum_told-1.given.1 ∙ c.before.before.header-header.ensures
 
@@ -74,14 +73,12 @@ headed c = header-done (widths (start c)) (bytes (start c)) Done (passed c) refl
 -- The counts are read.
 abbrev told : tie.After-constant_count-k → tie.In_default
 told c = c.before.before
-
-fits : (c : tie.After-constant_count-k) → Fitting (bytes (start (told c))) c.before.node-count.result c.constant-count.result
+fits : (c : tie.After-constant_count-k) → Fitting (bytes (start (told c))) c.before.node_count-n.result c.constant_count-k.result
 fits c = fitting (headed (told c)) c.before.node_count-n.result c.constant_count-k.result c.before.node_count-n.ensures c.constant_count-k.ensures
 
 -- The words are read.
 abbrev counts : tie.After-words-2 → tie.After-constant_count-k
 counts c = c.before.before.before.before.before
-
 abbrev nodes : tie.After-words-2 → List ℕ
 nodes c = c.words-2.new.out
 
@@ -91,11 +88,10 @@ constants c = c.before.before.before.words.new.out
 -- The nodes are judged.
 abbrev words : tie.After-tree-tree → tie.After-words-2
 words c = c.before.before.before.before
-
 abbrev began : tie.After-tree-tree → tie.Start
 began c = start (told (counts (words c)))
 
-judged : (c : tie.After-tree-tree) → c.tree.result ≡ first_cause (trees (began c))
+judged : (c : tie.After-tree-tree) → c.tree-tree.result ≡ first_cause (trees (began c))
 judged c = let w = words c in judged-nodes (fits (counts w)) (nodes w) w.words-2.ensures (widths (began c)) c.tree-tree.result c.tree-tree.ensures
 
 placed : (c : tie.In_default-tree) → Done ≡ first_cause (trees (began c.before.before))
@@ -104,11 +100,10 @@ placed c = sym c.enum_told-in_default-tree-1.given.1 ∙ judged c.before.before
 -- The columns are found.
 abbrev tree : tie.After-columns-columns → tie.After-tree-tree
 tree c = c.before.before.before.before
-
-found : (c : tie.After-columns-columns) → c.columns.result ≡ columns_found (columns (root (nodes_of (bytes (began (tree c))))))
+found : (c : tie.After-columns-columns) → c.columns-columns.result ≡ columns_found (columns (root (nodes_of (bytes (began (tree c))))))
 found c = let w = words (tree c) in found-columns (fits (counts w)) (nodes w) w.words2.ensures c.columns-columns.result c.columns-columns.ensures
 
-count : (c : tie.After-columns-columns) → c.columns.result.count ≡ length (columns (root (nodes_of (bytes (began (tree c))))))
+count : (c : tie.After-columns-columns) → c.columns-columns.result.count ≡ length (columns (root (nodes_of (bytes (began (tree c))))))
 count c = ap (λ (xs : Columns). xs.count) (found c)
 
 -- ---- the needs

@@ -8,7 +8,7 @@ use Rattle.rules.specs.Reply.Laws.{reply-short, reply-refuses, reply-reads}
 use Rattle.rules.proofs.read.Statement.{statement}
 use Rattle.rules.proofs.read.Tie as tie
 
-places : (c : tie.After-pack-p) → length c.pack.result.bytes ≡ 322
+places : (c : tie.After-pack-p) → length c.pack-p.result.bytes ≡ 322
 places c = search rules
 
 pack-requires : tie.Need-pack-p-requires

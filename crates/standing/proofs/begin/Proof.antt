@@ -8,7 +8,6 @@ use Rattle.standing.proofs.begin.Tie as tie
 -- The store is judged.
 abbrev start : tie.After-judge-judged → tie.Start
 start c = c.before.before
-
 judge-requires : tie.Need-judge-judged-requires
 judge-requires c κs = search rules
 

@@ -27,13 +27,12 @@ widths c = c.before.before.args.widths
 abbrev bytes : tie.After-read-reading → List ℕ
 bytes c = c.before.before.args.bytes.now
 
-constant-fits : (c : tie.After-read-reading) (i : ℕ) → Fits w32 (get_or c.read.result.query.constants i 0)
+constant-fits : (c : tie.After-read-reading) (i : ℕ) → Fits w32 (get_or c.read-reading.result.query.constants i 0)
 constant-fits c i = search rules
 
 -- It is accepted.
 abbrev reading : tie.In_default → tie.After-read-reading
 reading c = c.before.before.before.before
-
 abbrev query : tie.In_default → Query
 query c = (reading c).read.result.query
 

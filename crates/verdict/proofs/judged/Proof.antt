@@ -46,7 +46,7 @@ small-columns : (c : tie.Start) (x : ℕ) → In x (variables_in (given-columns 
 small-columns c x i = column-small (query c) x (subst (In x) (given-variables c) i)
 
 -- Its form is made.
-is-form : (c : tie.After-form_of-form) → IsForm c.form_of.result.nodes c.form_of.result.node_count
+is-form : (c : tie.After-form_of-form) → IsForm c.form_of-form.result.nodes c.form_of-form.result.node_count
 is-form c =
     let a = accepted c.before in
     subst⁻¹ (λ f. IsForm f.nodes f.node_count) c.form_of-form.ensures (form_is a.0 (query c.before) a.1)
@@ -54,10 +54,8 @@ is-form c =
 -- The sets of its nodes are found.
 abbrev formed : tie.After-generated-sets → tie.After-form_of-form
 formed c = c.before.before.before
-
 abbrev sets : tie.After-generators-generators → tie.After-generated-sets
 sets c = c.before.before.before.before.before.before
-
 root-set : (c : tie.After-generators-generators) → let f = (formed (sets c)).form_of.result in get_or (sets c).generated.result.plains (f.node_count - 1) 0 ≡ plain_bits f.nodes (f.node_count - 1)
 root-set c =
     let f = (formed (sets c)).form_of.result in
@@ -66,7 +64,6 @@ root-set c =
 -- All is found.
 abbrev reported : tie.After-unranged-unranged → tie.After-generators-generators
 reported c = c.before.before.before.before
-
 finished : (c : tie.After-unranged-unranged) (b : Bool) → let u = c.before.before.before.ungenerated-ungenerated.result in let w = c.unranged-unranged.result in b ≡ (eqb u 0 && eqb w 0)
     → let f = formed (sets (reported c)) in
     reply f.form_of.result (given-columns f.before) (reported c).generators.result u w b ≡ judged (query f.before)

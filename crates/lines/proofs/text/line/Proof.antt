@@ -31,8 +31,7 @@ module _ (at middle end : ℕ) (text ns out mid now : List ℕ) (w : (middle, mi
 -- The word and the numbers are written.
 module _ (c : tie.After-numbers-end) where
   abbrev worded : tie.After-bytes-middle
-  worded = c
-
+  worded = c.before.before.before.before
   abbrev start : tie.Start
   start = worded.before.before.before.before.before
 

@@ -61,7 +61,7 @@ loop-less c = search rules
 loop-again : tie.Need-loop-i-preserved invariant-loop decreases-loop
 loop-again c =
     let r = c.before in let l = r.before.before.loop-i in let b = r.before.before.before in let s = b.before.before.args in
-    (omega arith, next s.bytes.now b.begin-f.result l.f l.i r.«record».result c.collect-f.result l.invariant.1 r.«record».ensures c.collect-f.ensures)
+    (omega arith, next s.bytes.now b.begin-f.result l.f l.i r.record-r.result c.collect-f.result l.invariant.1 r.record-r.ensures c.collect-f.ensures)
 
 returns : tie.Need-returns invariant-loop decreases-loop
 returns c =

@@ -44,14 +44,14 @@ is-past-requires-5 c κs = search rules
 returns : tie.Need-returns-in-1
 returns c =
     let d = c.before.before.before.before.before in let f = d.before.before in let n = f.fields-f.ensures in let x = f.before.args in
-    rw (kind-read n d.in-1.keys1)
-    (rw (c.before.before.before.before.is_past.ensures, c.before.before.before.is_past-in-1.ensures, c.before.before.is_past-in-1-2.ensures, c.before.is_past-in-1-3.ensures, n.reads) at c.Some-of.ensures
+    rw (kind-read n d.in-1.is)
+    (rw (c.before.before.before.before.is_past.ensures, c.before.before.before.is_past-in-1.ensures, c.before.before.is_past-in-1-2.ensures, c.before.is_past-in-1-3.ensures, n.reads) at c.some_of.ensures
     ∙ some-tested (is_stray x.constants) (term_count x.w) (terms x.w))
 
 returns-2 : tie.Need-returns-in-2
 returns-2 c =
     let n = c.before.before.before.fields-f.ensures in
-    rw (kind-read n c.before.in-2.keys2, or-false) (rw n.reads at c.is_past-in-2.ensures)
+    rw (kind-read n c.before.in-2.is, or-false) (rw n.reads at c.is_past-in-2.ensures)
 
 returns-3 : tie.Need-returns-in_default
 returns-3 c =

@@ -16,7 +16,7 @@ use Rattle.query.proofs.fault.is_malformed.Tie as tie
 abbrev word : tie.Else-kind-gt6 → ℕ
 word c = c.before.before.before.args.w
 
-node : (c : tie.Else-kind-gt6) → NodeOf (word c) c.before.before.fields.result
+node : (c : tie.Else-kind-gt6) → NodeOf (word c) c.before.before.fields-f.result
 node c = c.before.before.fields-f.ensures
 
 known : (c : tie.Else-kind-gt6) → kind (word c) < 7

@@ -11,10 +11,10 @@ fields-requires : tie.Need-fields-f-requires
 fields-requires c κs = search rules
 
 returns : tie.Need-returns-in-3
-returns c = rw (children-not-read c.before.fields-f.ensures c.in-3.keys1, or-false)
+returns c = rw (children-not-read c.before.fields-f.ensures c.in-3.is, or-false)
 
 returns-2 : tie.Need-returns-in-6
-returns-2 c = rw (children-exists-read c.before.fields-f.ensures c.in-6.keys2, or-false)
+returns-2 c = rw (children-exists-read c.before.fields-f.ensures c.in-6.is, or-false)
 
 returns-3 : tie.Need-returns-then-i-left
 returns-3 c =

@@ -48,12 +48,12 @@ loop-again c =
     let h = c.before.before in let l = h.loop-x in let φ = formula h.before.before in let f = l.invariant.1 in (
       omega arith,
       ⊎_elim
-          (λ w. let m = left-found φ l.x l.rest (omega arith) l.invariant.2 w.0.taken in ⊎_elim
-          (λ v. found_as (found-put φ l.x l.variables l.count f m v.0.taken) (w.2 ∙ v.1) w.3)
-          (λ v. found_as (found-past φ l.x l.variables l.count f m v.0.left) (w.2 ∙ v.1) w.3)
-          w.1.came)
-          (λ w. found_as (found-missed φ l.x l.variables l.count f (left-missed φ l.x l.rest (omega arith) l.invariant.2 w.0.left)) w.1 w.2)
-          c.if-rest-eq1.branch,
+          (λ w. let m = left-found φ l.x l.rest (omega arith) l.invariant.2 w.if-rest-eq1.true in ⊎_elim
+          (λ v. found_as (found-put φ l.x l.variables l.count f m v.if-count-lt-COLUMNS.true) (w.variables-is ∙ v.variables-is) w.count-is)
+          (λ v. found_as (found-past φ l.x l.variables l.count f m v.if-count-lt-COLUMNS.false) (w.variables-is ∙ v.variables-is) w.count-is)
+          w.if-count-lt-COLUMNS.branch-raw)
+          (λ w. found_as (found-missed φ l.x l.variables l.count f (left-missed φ l.x l.rest (omega arith) l.invariant.2 w.if-rest-eq1.false)) w.variables-is w.count-is)
+          c.if-rest-eq1.branch-raw,
       left-next φ l.x l.rest l.invariant.2,
     )
 

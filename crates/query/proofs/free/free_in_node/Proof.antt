@@ -20,7 +20,7 @@ abbrev child : tie.Start → ℕ → Bool
 child c k = get_or c.args.before.now k false
 
 -- The fields read are those of w.
-read : (c : tie.After-fields-f) → c.fields.result ≡ fields_of c.before.args.w
+read : (c : tie.After-fields-f) → c.fields-f.result ≡ fields_of c.before.args.w
 read c = c.fields-f.ensures.reads
 
 fields-requires : tie.Need-fields-f-requires
@@ -56,40 +56,40 @@ element-copy-out-result-3 c = search rules
 returns : tie.Need-returns-in-1
 returns c =
     let f = c.before.before.before in let s = f.before in let x = s.args.x in let w = s.args.w in
-    (rw (read f) at c.Some-of.ensures) ∙ some-tested (eqb x) (term_count w) (terms w) ∙ sym (free-of-kind x w (child s) 1 (kind-read f.fields-f.ensures c.before.in-1.keys1))
+    (rw (read f) at c.some_of.ensures) ∙ some-tested (eqb x) (term_count w) (terms w) ∙ sym (free-of-kind x w (child s) 1 (kind-read f.fields-f.ensures c.before.in-1.is))
 
 returns-2 : tie.Need-returns-then-x-variable
 returns-2 c =
     let f = c.before.before.before in let s = f.before in let x = s.args.x in let w = s.args.w in
     rw (read f)
     (or-settled (eqb x (variable w)) (eqb x (equal_term w)) (eq-eqb x (variable w) (rw (read f) at c.if-x-variable.true))
-    ∙ sym (free-of-kind x w (child s) 2 (kind-read f.fields-f.ensures c.before.in-2.keys2)))
+    ∙ sym (free-of-kind x w (child s) 2 (kind-read f.fields-f.ensures c.before.in-2.is)))
 
 returns-3 : tie.Need-returns-else-x-variable
 returns-3 c =
     let f = c.before.before.before in let s = f.before in let x = s.args.x in let w = s.args.w in
     rw (read f)
     (or-left-to (eqb x (variable w)) (eqb x (equal_term w)) (ne_eqb x (variable w) (rw (read f) at c.if-x-variable.false))
-    ∙ sym (free-of-kind x w (child s) 2 (kind-read f.fields-f.ensures c.before.in-2.keys2)))
+    ∙ sym (free-of-kind x w (child s) 2 (kind-read f.fields-f.ensures c.before.in-2.is)))
 
 returns-4 : tie.Need-returns-in-3
 returns-4 c =
     let f = c.before.before.before in let s = f.before in
-    rw (read f) (sym (free-of-kind s.before.args.x s.before.args.w (child s) 3 (kind-read f.before.fields-f.ensures c.before.before.in-3.keys3)))
+    rw (read f) (sym (free-of-kind s.before.args.x s.before.args.w (child s) 3 (kind-read f.before.fields-f.ensures c.before.before.in-3.is)))
 
 returns-5 : tie.Need-returns-then-x-variable-2
 returns-5 c =
     let f = c.before.before.before.before in let s = f.before in let x = s.before.args.x in let w = s.before.args.w in
     rw (read f)
     (and-left-to (not (eqb x (variable w))) (child s (under w)) (ap not (ne_eqb x (variable w) (rw (read f) at c.before.before.if-x-variable-2.true)))
-    ∙ sym (free-of-kind x w (child s) 6 (kind-read f.before.fields-f.ensures c.before.before.before.in-6.keys4)))
+    ∙ sym (free-of-kind x w (child s) 6 (kind-read f.before.fields-f.ensures c.before.before.before.in-6.is)))
 
 returns-6 : tie.Need-returns-else-x-variable-2
 returns-6 c =
     let f = c.before.before.before in let s = f.before in let x = s.args.x in let w = s.args.w in
     rw (read f)
     (and-settled (not (eqb x (variable w))) (child s (under w)) (ap not (eq-eqb x (variable w) (rw (read f) at c.if-x-variable-2.false)))
-    ∙ sym (free-of-kind x w (child s) 6 (kind-read f.fields-f.ensures c.before.in-6.keys4)))
+    ∙ sym (free-of-kind x w (child s) 6 (kind-read f.fields-f.ensures c.before.in-6.is)))
 
 -- An and or an or.
 two : (c : tie.In-4) → let f = c.before.before.before.before in (4 ≤ kind f.before.args.w) × (kind f.before.args.w ≤ 5)

@@ -20,7 +20,7 @@ abbrev child : tie.Start → ℕ → ℕ
 child c k = get_or c.args.before.now k 0
 
 -- The fields read are those of w.
-read : (c : tie.After-fields-f) → c.fields.result ≡ fields_of c.before.args.w
+read : (c : tie.After-fields-f) → c.fields-f.result ≡ fields_of c.before.args.w
 read c = c.fields-f.ensures.reads
 
 fields-requires : tie.Need-fields-f-requires
@@ -88,26 +88,26 @@ returns c =
     let f = c.before.before.before.before.before.before in let s = f.before in let w = s.args.w in
     (λ i. bit_or (bit_or (bit_or (c.before.before.before.term_bit.ensures i) (c.before.before.term_bit-in-1.ensures i)) (c.before.term_bit-in-1-2.ensures i)) (c.term_bit-in-1-3.ensures i))
     ∙ ap (λ g. term_bits g.count g.terms) (read f)
-    ∙ sym (set-of-record w (child s) (kind-read f.fields-f.ensures c.before.before.before.before.in-1.keys1))
+    ∙ sym (set-of-record w (child s) (kind-read f.fields-f.ensures c.before.before.before.before.in-1.is))
 
 returns-2 : tie.Need-returns-in-2
 returns-2 c =
     let f = c.before.before.before.before in let s = f.before in
     (λ i. bit_or (c.before.term_bit-in-2.ensures i) (c.term_bit-in-2-2.ensures i))
     ∙ ap (λ g. bit_or (term_bit true g.variable) (term_bit true g.term)) (read f)
-    ∙ sym (set-of-equality s.args.w (child s) (kind-read f.fields-f.ensures c.before.before.in-2.keys2))
+    ∙ sym (set-of-equality s.args.w (child s) (kind-read f.fields-f.ensures c.before.before.in-2.is))
 
 returns-3 : tie.Need-returns-in-3
 returns-3 c =
     let f = c.before.before.before in let s = f.before in
-    rw (read f) (sym (set-of-not s.before.args.w (child s) (kind-read f.before.fields-f.ensures c.before.before.in-3.keys3)))
+    rw (read f) (sym (set-of-not s.before.args.w (child s) (kind-read f.before.fields-f.ensures c.before.before.in-3.is)))
 
 returns-4 : tie.Need-returns-in-6
 returns-4 c =
     let f = c.before.before.before.before in let s = f.before in
     (λ i. bit_xor (bit_or (child s f.before.fields-f.result.under) (c.before.before.term_bit-bound.ensures i)) (c.before.before.term_bit-bound.ensures i))
     ∙ ap (λ g. without g.variable (child s g.under)) (read f)
-    ∙ sym (set-of-exists s.before.args.w (child s) (kind-read f.before.fields-f.ensures c.before.before.before.in-6.keys4))
+    ∙ sym (set-of-exists s.before.args.w (child s) (kind-read f.before.fields-f.ensures c.before.before.before.in-6.is))
 
 -- An and or an or.
 two : (c : tie.In-4) → let f = c.before.before.before.before in (4 ≤ kind f.before.args.w) × (kind f.before.args.w ≤ 5)

@@ -19,7 +19,7 @@ returns c =
     rw (c.before.if-used.true, c.if-t-lt16.true) (omega (arith, pow-lt {i = t} {j = 16} (ltb-true t 16 c.if-t-lt16.true)))
 
 returns-2 : tie.Need-returns
-returns-2 c = ⊎_elim (λ w. rw (w.0.taken, w.1.left)) (λ w. rw w.left) c.else-used.branch
+returns-2 c = ⊎_elim (λ w. rw (w.if-used.true, w.if-t-lt16.false)) (λ w. rw w.left) c.else-used.branch-raw
 
 pub term_bit_spec : {M : Type 1} → statement M
 term_bit_spec = tie.close (tie.spec cast-result shl-result returns returns-2)

@@ -31,7 +31,7 @@ places : (c : tie.After-fields-f) → length c.before.before.before.args.counts.
 places c = search rules
 
 -- A node that is no not, no and, no or and no exists has no children.
-childless : (c : tie.In_default-1) → c.before.fields.result.kind ≢ 4 → c.before.fields.result.kind ≢ 5 → children c.before.before.before.before.args.w ≡ []
+childless : (c : tie.In_default-1) → c.before.fields-f.result.kind ≢ 4 → c.before.fields-f.result.kind ≢ 5 → children c.before.before.before.before.args.w ≡ []
 childless c a b = children-none-read c.before.fields-f.ensures c.in_default-1.rest.0.1 a b c.in_default-1.rest.1
 
 -- ---- the needs
@@ -62,12 +62,12 @@ bump-requires-4 c κs =
 returns : tie.Need-returns-in-3
 returns c =
     let f = c.before.before.before in let s = f.before.before.before in
-    c.bump.ensures ∙ counted-one s.args.counts.now (places f) s.args.w f.fields-f.result.left f.fields-f.ensures.left_fits (children-not-read f.fields-f.ensures c.before.before.in-3.keys1)
+    c.bump.ensures ∙ counted-one s.args.counts.now (places f) s.args.w f.fields-f.result.left f.fields-f.ensures.left_fits (children-not-read f.fields-f.ensures c.before.before.in-3.is)
 
 returns-2 : tie.Need-returns-in-6
 returns-2 c =
     let f = c.before.before.before in let s = f.before.before.before in
-    c.bump-in-6.ensures ∙ counted-one s.args.counts.now (places f) s.args.w f.fields-f.result.under f.fields-f.ensures.under_fits (children-exists-read f.fields-f.ensures c.before.before.in-6.keys2)
+    c.bump-in-6.ensures ∙ counted-one s.args.counts.now (places f) s.args.w f.fields-f.result.under f.fields-f.ensures.under_fits (children-exists-read f.fields-f.ensures c.before.before.in-6.is)
 
 returns-3 : tie.Need-returns-then-kind-lt3
 returns-3 c =

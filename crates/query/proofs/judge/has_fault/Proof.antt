@@ -48,7 +48,7 @@ returns : tie.Need-returns-then-reaches
 returns c =
     let x = c.before.before.before.before.before.args in let ns = x.nodes.now in
     let e : length ns ≡ max_nodes = search rules in
-    rw c.before.before.in-7.keys2 (reaching ns x.n x.i (omega arith) (omega arith) c.before.reaches.result c.before.reaches.ensures c.if-reaches.true)
+    rw c.before.before.in-7.is (reaching ns x.n x.i (omega arith) (omega arith) c.before.reaches.result c.before.reaches.ensures c.if-reaches.true)
 
 add-if2 : tie.Need-overflow_add-i
 add-if2 c = search rules
@@ -57,7 +57,7 @@ returns-2 : tie.Need-returns-then-i-n
 returns-2 c =
     let x = c.before.before.before.before.before.before.args in let ns = x.nodes.now in
     let e : length ns ≡ max_nodes = search rules in
-    rw c.before.before.before.in-7.keys2 (last ns x.n x.i (omega arith) (omega arith) c.before.before.reaches.result c.before.before.reaches.ensures c.before.if-reaches.false c.if-i-n.true)
+    rw c.before.before.before.in-7.is (last ns x.n x.i (omega arith) (omega arith) c.before.before.reaches.result c.before.before.reaches.ensures c.before.if-reaches.false c.if-i-n.true)
 
 element-copy-out-result : tie.Need-bounds-counts-i
 element-copy-out-result c = search rules
@@ -74,23 +74,23 @@ is-mismatched-requires c κs = search rules
 returns-3 : tie.Need-returns-in-6
 returns-3 c =
     let x = c.before.before.before.before.args in let h : x.i < x.n = omega arith in
-    rw (c.before.in-6.keys1, get_or-take x.n x.nodes.now x.i 0 h) c.is_malformed.ensures
+    rw (c.before.in-6.is, get_or-take x.n x.nodes.now x.i 0 h) c.is_malformed.ensures
 
 returns-4 : tie.Need-returns-else-i-n
 returns-4 c =
     let x = c.before.before.before.before.before.before.before.before.args in let ns = x.nodes.now in
     let e : length ns ≡ max_nodes = search rules in
-    rw c.before.before.before.before.before.in-7.keys2 (other ns x.n x.i (omega arith) (omega arith) c.before.before.before.before.reaches.result c.before.before.before.before.reaches.ensures c.before.before.before.if-reaches.false c.before.before.if-i-n.false x.counts.now c.before.before.before.before.before.before.before.before.requires.1 (omega arith))
+    rw c.before.before.before.before.before.in-7.is (other ns x.n x.i (omega arith) (omega arith) c.before.before.before.before.reaches.result c.before.before.before.before.reaches.ensures c.before.before.before.if-reaches.false c.before.before.if-i-n.false x.counts.now c.before.before.before.before.before.before.before.before.requires.1 (omega arith))
 
 returns-5 : tie.Need-returns-in-8
 returns-5 c =
     let x = c.before.before.before.before.args in let h : x.i < x.n = omega arith in
-    rw (c.before.in-8.keys3, get_or-take x.n x.nodes.now x.i 0 h) c.has_stray.ensures
+    rw (c.before.in-8.is, get_or-take x.n x.nodes.now x.i 0 h) c.has_stray.ensures
 
 returns-6 : tie.Need-returns-in-9
 returns-6 c =
     let x = c.before.before.before.before.args in let h : x.i < x.n = omega arith in
-    rw (c.before.in-9.keys4, get_or-take x.n x.nodes.now x.i 0 h) c.is_mismatched.ensures
+    rw (c.before.in-9.is, get_or-take x.n x.nodes.now x.i 0 h) c.is_mismatched.ensures
 
 returns-7 : tie.Need-returns-in_default
 returns-7 c =

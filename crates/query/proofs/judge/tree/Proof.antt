@@ -26,7 +26,7 @@ sized c =
     let x = c.before.before.args in let e : length x.nodes.now ≡ max_nodes = search rules in
     length-take-le x.n x.nodes.now (omega arith)
 
-met-6 : (c : tie.Then-malformed-n) → finding c.before.before.before.before.before 6 ≡ met c.before.lowest-fault.result
+met-6 : (c : tie.Then-malformed-n) → finding c.before.before.before.before.before 6 ≡ met c.before.lowest_fault-malformed.result
 met-6 c =
     let s = c.before.before.before.before.before in
     fault-met s.args.widths.now s.args.constants (nodes s) 6 s.args.n c.before.lowest_fault-malformed.result (sized c.before.before.before) c.before.lowest_fault-malformed.ensures.1 c.if-malformed-n.true
@@ -36,7 +36,7 @@ clear-6 c =
     let s = c.before.before.before.before.before in
     fault-clear s.args.widths.now s.args.constants (nodes s) 6 s.args.n c.before.lowest_fault-malformed.result (sized c.before.before.before) c.before.lowest_fault-malformed.ensures.1 c.if-malformed-n.false
 
-met-7 : (c : tie.Then-misplaced-n) → finding c.before.before.before.before.before.before.before.before 7 ≡ met c.before.lowest-fault2.result
+met-7 : (c : tie.Then-misplaced-n) → finding c.before.before.before.before.before.before.before.before 7 ≡ met c.before.lowest_fault-misplaced.result
 met-7 c =
     let s = c.before.before.before.before.before.before.before.before in
     fault-met s.args.widths.now s.args.constants (nodes s) 7 s.args.n c.before.lowest_fault-misplaced.result (sized c.before.before.before.before.before.before) c.before.lowest_fault-misplaced.ensures.1 c.if-misplaced-n.true
@@ -46,7 +46,7 @@ clear-7 c =
     let s = c.before.before.before.before.before.before.before.before in
     fault-clear s.args.widths.now s.args.constants (nodes s) 7 s.args.n c.before.lowest_fault-misplaced.result (sized c.before.before.before.before.before.before) c.before.lowest_fault-misplaced.ensures.1 c.if-misplaced-n.false
 
-met-8 : (c : tie.Then-stray-n) → finding c.before.before.before.before.before.before.before.before.before.before.before 8 ≡ met c.before.lowest-fault3.result
+met-8 : (c : tie.Then-stray-n) → finding c.before.before.before.before.before.before.before.before.before.before.before 8 ≡ met c.before.lowest_fault-stray.result
 met-8 c =
     let s = c.before.before.before.before.before.before.before.before.before.before.before in
     fault-met s.args.widths.now s.args.constants (nodes s) 8 s.args.n c.before.lowest_fault-stray.result (sized c.before.before.before.before.before.before.before.before.before) c.before.lowest_fault-stray.ensures.1 c.if-stray-n.true
@@ -56,7 +56,7 @@ clear-8 c =
     let s = c.before.before.before.before.before.before.before.before.before.before.before in
     fault-clear s.args.widths.now s.args.constants (nodes s) 8 s.args.n c.before.lowest_fault-stray.result (sized c.before.before.before.before.before.before.before.before.before) c.before.lowest_fault-stray.ensures.1 c.if-stray-n.false
 
-met-9 : (c : tie.Then-mismatched-n) → finding c.before.before.before.before.before.before.before.before.before.before.before.before.before.before 9 ≡ met c.before.lowest-fault4.result
+met-9 : (c : tie.Then-mismatched-n) → finding c.before.before.before.before.before.before.before.before.before.before.before.before.before.before 9 ≡ met c.before.lowest_fault-mismatched.result
 met-9 c =
     let s = c.before.before.before.before.before.before.before.before.before.before.before.before.before.before in
     fault-met s.args.widths.now s.args.constants (nodes s) 9 s.args.n c.before.lowest_fault-mismatched.result (sized c.before.before.before.before.before.before.before.before.before.before.before.before) c.before.lowest_fault-mismatched.ensures.1 c.if-mismatched-n.true

@@ -6,19 +6,19 @@ use Rattle.query.proofs.node.rest.Statement.{statement}
 use Rattle.query.proofs.node.rest.Tie as tie
 
 returns : tie.Need-returns-in-0
-returns c = rw c.in-0.keys1
+returns c = rw c.in-0.is
 
 returns-2 : tie.Need-returns-in-1
-returns-2 c = rw c.in-1.keys2
+returns-2 c = rw c.in-1.is
 
 returns-3 : tie.Need-returns-in-2
-returns-3 c = rw c.in-2.keys3
+returns-3 c = rw c.in-2.is
 
 returns-4 : tie.Need-returns-in-3
-returns-4 c = rw c.in-3.keys4
+returns-4 c = rw c.in-3.is
 
 returns-5 : tie.Need-returns-in-6
-returns-5 c = rw c.in-6.keys5
+returns-5 c = rw c.in-6.is
 
 returns-6 : tie.Need-returns-in-4
 returns-6 c = sym (rest-two c.before.before.args.w (omega (arith, c.before.in_default-1.rest)) (omega arith))

@@ -61,15 +61,14 @@ digits-claims t = (digits-below t, digits'.Post)
 -- After the branch: the digits but the last are written.
 module _ (t : ℕ) (c : digits-lts.Joined-n-ge10 (digits-claims t) (digits-at t) digits'.Post) where
   abbrev start : digits-lts.Start (digits-claims t) (digits-at t) digits'.Post
-  start = c
-
+  start = c.before.before.before
   written : (c.if-n-ge10.end, c.if-n-ge10.out) ≡ wrote start.args.at (front start.args.k start.args.n) start.args.out.now
   written =
       let a = start.args in
       ⊎_elim
-      (λ w. (λ i. (w.6 i, w.5 i)) ∙ w.2.ensures ∙ ap (λ d. wrote a.at d a.out.now) (sym (front-some a.k a.n w.0.taken)))
-      (λ w. (λ i. (w.2 i, w.1 i)) ∙ wrote_none a.at a.out.now ∙ ap (λ d. wrote a.at d a.out.now) (sym (front-none a.k a.n (omega (arith, w.0.left)))))
-      c.if-n-ge10.branch
+      (λ w. (λ i. (w.end-is i, w.out-is i)) ∙ w.digits-end.ensures ∙ ap (λ d. wrote a.at d a.out.now) (sym (front-some a.k a.n w.if-n-ge10.true)))
+      (λ w. (λ i. (w.end-is i, w.out-is i)) ∙ wrote_none a.at a.out.now ∙ ap (λ d. wrote a.at d a.out.now) (sym (front-none a.k a.n (omega (arith, w.if-n-ge10.false)))))
+      c.if-n-ge10.branch-raw
 
   kept : length c.if-n-ge10.out ≡ length start.args.out.now
   kept = let a = start.args in wrote-length a.at c.if-n-ge10.end (front a.k a.n) a.out.now c.if-n-ge10.out written

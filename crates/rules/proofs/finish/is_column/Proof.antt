@@ -31,7 +31,7 @@ some-of-requires c κs = search rules
 returns : tie.Need-returns
 returns c =
     let s = c.before.before.before in let a = s.args in
-    c.Some-of.ensures ∙ four-tested (eqb a.x) a.h.count a.h.variables (places s)
+    c.some_of.ensures ∙ four-tested (eqb a.x) a.h.count a.h.variables (places s)
 
 pub is_column_spec : {M : Type 1} → statement M
 is_column_spec = tie.close (tie.spec cast-some-of array-read-some-of array-read-some-of-2 array-read-some-of-3 array-read-some-of-4 some-of-requires returns)

@@ -55,7 +55,7 @@ some-of-requires c κs = search rules
 returns : tie.Need-returns
 returns c =
     let s = c.before.before.before.before.before.before.before in let a = s.before.args in
-    c.Some-of.ensures ∙ four-tested (λ x. not (get_or a.seen.now x false)) a.h.count a.h.variables (places s)
+    c.some_of.ensures ∙ four-tested (λ x. not (get_or a.seen.now x false)) a.h.count a.h.variables (places s)
 
 pub is_missing_spec : {M : Type 1} → statement M
 is_missing_spec =

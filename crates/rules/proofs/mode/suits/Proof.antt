@@ -6,13 +6,13 @@ use Rattle.rules.proofs.mode.suits.Statement.{statement}
 use Rattle.rules.proofs.mode.suits.Tie as tie
 
 returns : tie.Need-returns-in-0
-returns c = rw c.in-0.keys1
+returns c = rw c.in-0.is
 
 returns-2 : tie.Need-returns-in-2
-returns-2 c = rw c.in-2.keys2
+returns-2 c = rw c.in-2.is
 
 returns-3 : tie.Need-returns-in-4
-returns-3 c = rw c.in-4.keys3
+returns-3 c = rw c.in-4.is
 
 returns-4 : tie.Need-returns-in_default
 returns-4 c =

@@ -17,20 +17,18 @@ use Rattle.rules.proofs.output.print.Tie as tie
 -- What packing handed back.
 abbrev start : tie.After-pack-p → tie.Start
 start c = c.before.before
-
-short : (c : tie.After-pack-p) → c.pack.result.size ≤ max_bytes
+short : (c : tie.After-pack-p) → c.pack-p.result.size ≤ max_bytes
 short c = reply-short (start c).args.text.now c.pack-p.result c.pack-p.ensures
 
-held : (c : tie.After-pack-p) → length c.pack.result.bytes ≡ max_bytes
+held : (c : tie.After-pack-p) → length c.pack-p.result.bytes ≡ max_bytes
 held c = search rules
 
-taken : (c : tie.After-pack-p) → length (take c.pack.result.size c.pack.result.bytes) ≡ c.pack.result.size
+taken : (c : tie.After-pack-p) → length (take c.pack-p.result.size c.pack-p.result.bytes) ≡ c.pack-p.result.size
 taken c = length-take-le c.pack-p.result.size c.pack-p.result.bytes (omega (arith, short c, held c))
 
 -- Where the buffer is lent to the next call, its size is known.
 abbrev refused : tie.After-refusal-arg-1 → tie.After-pack-p
 refused c = c.before.before.before.before
-
 refused-sized : (c : tie.After-refusal-arg-1) → length (start (refused c)).args.out.now ≡ max_bytes
 refused-sized c = search rules
 

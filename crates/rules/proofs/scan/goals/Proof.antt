@@ -41,29 +41,29 @@ equality-requires c κs =
     bounded a.body a.number a.constants.now t.term-f-in-7.result t.term-f-in-7.new.constants s.requires t.term-f-in-7.ensures
 
 returns-2 : tie.Need-returns-in-2
-returns-2 c = let a = c.before.before.args in sym (step-within a.effect a.body a.number a.constants.now a.nodes.now 2 c.before.if-e.false c.in-2.keys1)
+returns-2 c = let a = c.before.before.args in sym (step-within a.effect a.body a.number a.constants.now a.nodes.now 2 c.before.if-e.false c.in-2.is)
 
 returns-3 : tie.Need-returns-in-3
-returns-3 c = let a = c.before.before.args in sym (step-within a.effect a.body a.number a.constants.now a.nodes.now 3 c.before.if-e.false c.in-3.keys2)
+returns-3 c = let a = c.before.before.args in sym (step-within a.effect a.body a.number a.constants.now a.nodes.now 3 c.before.if-e.false c.in-3.is)
 
 returns-4 : tie.Need-returns-in-4
-returns-4 c = let a = c.before.before.args in sym (step-within a.effect a.body a.number a.constants.now a.nodes.now 4 c.before.if-e.false c.in-4.keys3)
+returns-4 c = let a = c.before.before.args in sym (step-within a.effect a.body a.number a.constants.now a.nodes.now 4 c.before.if-e.false c.in-4.is)
 
 returns-5 : tie.Need-returns-in-5
 returns-5 c =
     let m = c.before.before in let a = m.before.before.args in
-    step-term a.effect a.body a.number a.constants.now a.nodes.now c.term.result c.term.new.constants m.before.if-e.false m.in-5.keys4 c.term.ensures
+    step-term a.effect a.body a.number a.constants.now a.nodes.now c.term.result c.term.new.constants m.before.if-e.false m.in-5.is c.term.ensures
 
 returns-6 : tie.Need-returns-in-6
 returns-6 c =
     let t = c.before.before in let m = t.before.before in let a = m.before.before.args in
-    step-relation a.effect a.body a.number a.constants.now a.nodes.now t.term-f.result t.term-f.new.constants m.before.if-e.false m.in-6.keys5 t.term-f.ensures
+    step-relation a.effect a.body a.number a.constants.now a.nodes.now t.term-f.result t.term-f.new.constants m.before.if-e.false m.in-6.is t.term-f.ensures
     c.relation.result c.relation.new.nodes c.relation.ensures
 
 returns-7 : tie.Need-returns-in-7
 returns-7 c =
     let t = c.before.before in let m = t.before.before in let a = m.before.before.args in
-    step-equality a.effect a.body a.number a.constants.now a.nodes.now t.term-f-in-7.result t.term-f-in-7.new.constants m.before.if-e.false m.in-7.keys6 t.term-f-in-7.ensures
+    step-equality a.effect a.body a.number a.constants.now a.nodes.now t.term-f-in-7.result t.term-f-in-7.new.constants m.before.if-e.false m.in-7.is t.term-f-in-7.ensures
     c.equality.result c.equality.new.nodes c.equality.ensures
 
 returns-8 : tie.Need-returns-in_default

@@ -23,14 +23,12 @@ use Rattle.standing.proofs.layout.suits.Tie as tie
 -- The columns are the query's.
 abbrev asked : tie.Else-not-agree → tie.Start
 asked c = c.before.before.before
-
 same-columns : (c : tie.Else-not-agree) → (asked c).args.view.columns ≡ (asked c).args.columns
 same-columns c = confirmed-by (c.if-not-agree.false) c.before.agree.ensures
 
 -- There are at most `max_rows` rows,
 abbrev agreed : tie.Else-count-gt-ROWS → tie.Else-not-agree
 agreed c = c.before.before.before
-
 abbrev list : tie.Else-count-gt-ROWS → View
 list c = (asked (agreed c)).args.view
 
@@ -40,21 +38,18 @@ columns c = (asked (agreed c)).args.columns
 -- each zero past its values,
 abbrev counted : tie.Else-not-all_end → tie.Else-count-gt-ROWS
 counted c = c.before.before.before
-
 all-ended : (c : tie.Else-not-all_end) → all_of (ends (columns (counted c)).count) (held_rows (list (counted c)).rows) ≡ true
 all-ended c = sym c.before.all_end.ensures ∙ c.if-not-all_end.false
 
 -- in order,
 abbrev ended : tie.Else-not-all_ascend → tie.Else-not-all_end
 ended c = c.before.before.before
-
 all-ordered : (c : tie.Else-not-all_ascend) → is-ascending row_below (held_rows (list (counted (ended c))).rows) ≡ true
 all-ordered c = sym c.before.all_ascend.ensures ∙ c.if-not-all_ascend.false
 
 -- and the rest zero.
 abbrev ordered : tie.Else-not-rest_zero → tie.Else-not-all_ascend
 ordered c = c.before.before.before
-
 abbrev held : tie.Else-not-rest_zero → tie.Else-count-gt-ROWS
 held c = counted (ended (ordered c))
 
@@ -63,7 +58,7 @@ rest-is-zero c = sym c.before.rest_zero.ensures ∙ c.if-not-rest_zero.false
 
 -- An endless list has no rows.
 no-rows-marked : (c : tie.Joined-else-view) → ((list (held c.before)).endless && ltb 0 (list (held c.before)).rows.count) ≡ false
-no-rows-marked c = ⊎_elim (λ h i. h.0.taken i && h.1.left i) (λ h i. h.left i && ltb 0 (list (held c.before)).rows.count) c.else-view.branch
+no-rows-marked c = ⊎_elim (λ h i. h.0.taken i && h.1.left i) (λ h i. h.left i && ltb 0 (list (held c.before)).rows.count) c.else-view.branch-raw
 
 -- ---- the needs
 

@@ -72,9 +72,9 @@ loop-again c =
     let told = tested (λ (x : Row). any_of (same_list x) ys) c.before.stands.ensures here in
     let e : rows_with c.if-not-stands.values c.if-not-stands.count ≡ stored (found xs (i + 1) ys) =
     ⊎_elim
-    (λ w. (λ q. rows_with ((w.6 ∙ w.3.ensures) q) (w.7 q)) ∙ found-written xs ys i few l.values l.count w.1.given.0 l.invariant.4 (told ∙ w.0.taken))
-    (λ w. (λ q. rows_with (w.1 q) (w.2 q)) ∙ l.invariant.4 ∙ ap stored (sym (found-without xs ys i few (told ∙ w.0.left))))
-    c.if-not-stands.branch in
+    (λ w. (λ q. rows_with ((w.values-is ∙ w.carry.ensures) q) (w.count-is q)) ∙ found-written xs ys i few l.values l.count w.carry-arg-1.given.0 l.invariant.4 (told ∙ w.if-not-stands.true))
+    (λ w. (λ q. rows_with (w.values-is q) (w.count-is q)) ∙ l.invariant.4 ∙ ap stored (sym (found-without xs ys i few (told ∙ w.if-not-stands.false))))
+    c.if-not-stands.branch-raw in
     let z = found-sizes xs ys (i + 1) (omega (arith, few)) c.if-not-stands.values c.if-not-stands.count e in
     (omega arith, z.0, z.1, λ m. passed_on xs n s.requires.0.0 s.requires.0.1 ys i p.result m (subst (Passed ys p.result) here p.ensures.0), e)
 

@@ -22,10 +22,10 @@ returns-5 : tie.Need-returns
 returns-5 c =
     let s = c.before.before.before.before.args in
     ends-holds s.k s.x
-    (⊎_elim (λ h l. h.2.left) (λ h l. absurd (omega arith)) c.before.before.before.else-k-eq0.branch)
-    (⊎_elim (λ h l. h.2.left) (λ h l. absurd (omega arith)) c.before.before.else-k-le1.branch)
-    (⊎_elim (λ h l. h.2.left) (λ h l. absurd (omega arith)) c.before.else-k-le2.branch)
-    (⊎_elim (λ h l. h.2.left) (λ h l. absurd (omega arith)) c.else-k-le3.branch)
+    (⊎_elim (λ h l. h.2.left) (λ h l. absurd (omega arith)) c.before.before.before.else-k-eq0.branch-raw)
+    (⊎_elim (λ h l. h.2.left) (λ h l. absurd (omega arith)) c.before.before.else-k-le1.branch-raw)
+    (⊎_elim (λ h l. h.2.left) (λ h l. absurd (omega arith)) c.before.else-k-le2.branch-raw)
+    (⊎_elim (λ h l. h.2.left) (λ h l. absurd (omega arith)) c.else-k-le3.branch-raw)
 
 pub ends_spec : {M : Type 1} → statement M
 ends_spec = tie.close (tie.spec returns returns-2 returns-3 returns-4 returns-5)

@@ -29,7 +29,7 @@ abbrev at : tie.Start invariant-loop decreases-loop → ℕ → Record
 at s = record_at s.args.relations.now s.args.values.now
 
 -- The first record of a run fits.
-first_fits : (c : tie.Else-not-record_fits invariant-loop decreases-loop) → fits c.before.before.before.before.before.before.before.args.widths.now c.before.before.before.before.read.result ≡ true
+first_fits : (c : tie.Else-not-record_fits invariant-loop decreases-loop) → fits c.before.before.before.before.before.before.before.args.widths.now c.before.before.before.before.read-r.result ≡ true
 first_fits c = sym c.before.record_fits.ensures ∙ c.if-not-record_fits.false
 
 size : (s : tie.Start invariant-loop decreases-loop) → length (records s) ≡ s.args.count

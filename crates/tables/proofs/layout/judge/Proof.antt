@@ -20,11 +20,9 @@ store c = c.before.before.before.before.before.args.s
 -- Its count is in range.
 abbrev counted : tie.After-is_orderly → tie.Else-count-gt-PLACES
 counted c = c.before.before.before.before
-
 -- Its records are in order.
 abbrev ordered : tie.After-rest_blank → tie.Else-not-is_orderly
 ordered c = c.before.before.before
-
 widths_right : (c : tie.Else-not-widths_are_right) → widths_fit (store c).widths ≡ true
 widths_right c = sym c.before.widths_are_right.ensures ∙ c.if-not-widths_are_right.false
 

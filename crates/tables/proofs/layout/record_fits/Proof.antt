@@ -42,9 +42,9 @@ returns-6 c =
     c.before.before.before.before.before.before.before.before.args.r
     c.before.before.before.before.before.before.if-relation-ge-RELATIONS.false
     c.before.before.before.if-width-eq0.false
-    (⊎_elim (λ s l. s.2.left) (λ s l. absurd (omega arith)) c.before.before.else-width-le1.branch)
-    (⊎_elim (λ s l. s.2.left) (λ s l. absurd (omega arith)) c.before.else-width-le2.branch)
-    (⊎_elim (λ s l. s.2.left) (λ s l. absurd (omega arith)) c.else-width-le3.branch)
+    (⊎_elim (λ s l. s.2.left) (λ s l. absurd (omega arith)) c.before.before.else-width-le1.branch-raw)
+    (⊎_elim (λ s l. s.2.left) (λ s l. absurd (omega arith)) c.before.else-width-le2.branch-raw)
+    (⊎_elim (λ s l. s.2.left) (λ s l. absurd (omega arith)) c.else-width-le3.branch-raw)
 
 pub record_fits_spec : {M : Type 1} → statement M
 record_fits_spec = tie.close (tie.spec cast-relation returns element-copy-out-width returns-2 returns-3 returns-4 returns-5 returns-6)

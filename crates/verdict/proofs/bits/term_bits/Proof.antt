@@ -33,7 +33,7 @@ term-bit-requires : tie.Need-term_bit-one-requires
 term-bit-requires c κs = search rules
 
 -- The first one, two, three and four.
-one : (c : tie.After-term_bit-one) → c.term_bit.result ≡ mask 16 (take 1 (all c.before.before))
+one : (c : tie.After-term_bit-one) → c.term_bit-one.result ≡ mask 16 (take 1 (all c.before.before))
 one c = c.term_bit-one.ensures
 
 returns-2 : tie.Need-returns-then-count-eq1
@@ -42,7 +42,7 @@ returns-2 c = at_count c.before.before.before 1 c.before.term_bit-one.result c.i
 term-bit-requires-2 : tie.Need-term_bit-requires
 term-bit-requires-2 c κs = search rules
 
-two : (c : tie.After-term_bit) → bit_or c.before.before.term_bit.result c.term-bit2.result ≡ mask 16 (take 2 (all c.before.before.before.before))
+two : (c : tie.After-term_bit) → bit_or c.before.before.term_bit-one.result c.term_bit.result ≡ mask 16 (take 2 (all c.before.before.before.before))
 two c =
     let s = c.before.before.before.before.args in
     mask-joined 16 c.before.before.term_bit-one.result c.term_bit.result (s.a ∷ []) (s.b ∷ []) (one c.before.before) c.term_bit.ensures
@@ -53,7 +53,7 @@ returns-3 c = at_count c.before.before.before.before.before 2 (bit_or c.before.b
 term-bit-requires-3 : tie.Need-term_bit-requires-2
 term-bit-requires-3 c κs = search rules
 
-three : (c : tie.After-term_bit-2) → bit_or (bit_or c.before.before.before.before.term_bit.result c.before.before.term-bit2.result) c.term-bit3.result ≡ mask 16 (take 3 (all c.before.before.before.before.before.before))
+three : (c : tie.After-term_bit-2) → bit_or (bit_or c.before.before.before.before.term_bit-one.result c.before.before.term_bit.result) c.term_bit-2.result ≡ mask 16 (take 3 (all c.before.before.before.before.before.before))
 three c =
     let s = c.before.before.before.before.before.before.args in
     mask-joined 16 (bit_or c.before.before.before.before.term_bit-one.result c.before.before.term_bit.result) c.term_bit-2.result (s.a ∷ s.b ∷ []) (s.c ∷ []) (two c.before.before) c.term_bit-2.ensures

@@ -52,8 +52,7 @@ task t s = record { inside = s.requires.1.0.0; room = s.requires.1.0.1; zeros = 
 -- Where the fields are read: the start, and the node.
 abbrev begun : (t : ℕ) → propagate-lts.After-fields-f (propagate-claims t) (propagate-at t) propagate.Post → propagate-lts.Start (propagate-claims t) (propagate-at t) propagate.Post
 begun t c = c.before.before.before
-
-node : (t : ℕ) (c : propagate-lts.After-fields-f (propagate-claims t) (propagate-at t) propagate.Post) → NodeOf (get_or (begun t c).args.nodes.now (begun t c).args.i 0) c.fields.result
+node : (t : ℕ) (c : propagate-lts.After-fields-f (propagate-claims t) (propagate-at t) propagate.Post) → NodeOf (get_or (begun t c).args.nodes.now (begun t c).args.i 0) c.fields-f.result
 node t c = c.fields-f.ensures
 
 -- An and or an or.
@@ -65,8 +64,7 @@ join-of t c =
 -- Its left subtree is written, up to `middle`.
 module _ (t : ℕ) (c : propagate-lts.After-propagate-middle (propagate-claims t) (propagate-at t) propagate.Post) where
   abbrev start : propagate-lts.Start (propagate-claims t) (propagate-at t) propagate.Post
-  start = c
-
+  start = c.before.before.before.before.before.before.before.before
   abbrev read : NodeOf (get_or start.args.nodes.now start.args.i 0) c.before.before.before.before.before.fields-f.result
   read = node t c.before.before.before.before.before
 
@@ -113,23 +111,23 @@ propagate-push-requires t c κs =
 propagate-propagate-requires : (t : ℕ) → propagate-lts.Need-propagate-end-requires (propagate-claims t) (propagate-at t) propagate.Post
 propagate-propagate-requires t c κs =
     let f = c.before.before in let s = begun t f in let n = node t f in
-    rw n.reads (child-asks s.requires.0 (not-asks (task t s) (kind-read n c.before.in-3.keys2)) s.requires.1.1)
+    rw n.reads (child-asks s.requires.0 (not-asks (task t s) (kind-read n c.before.in-3.is)) s.requires.1.1)
 
 propagate-negate-requires : (t : ℕ) → propagate-lts.Need-negate-requires (propagate-claims t) (propagate-at t) propagate.Post
 propagate-negate-requires t c κs =
     let f = c.before.before.before.before in let s = begun t f in let n = node t f in let w = get_or s.args.nodes.now s.args.i 0 in
-    let a = not-asks (task t s) (kind-read n c.before.before.before.in-3.keys2) in let g = child-grown (task t s) (left w) (rw n.reads at c.before.propagate-end.ensures) in
+    let a = not-asks (task t s) (kind-read n c.before.before.before.in-3.is) in let g = child-grown (task t s) (left w) (rw n.reads at c.before.propagate-end.ensures) in
     (omega (arith, g.longer), omega (arith, g.short, a.room), g.again)
 
 propagate-propagate-requires-2 : (t : ℕ) → propagate-lts.Need-propagate-end-requires-in-6 (propagate-claims t) (propagate-at t) propagate.Post
 propagate-propagate-requires-2 t c κs =
     let f = c.before.before in let s = begun t f in let n = node t f in
-    rw n.reads (child-asks s.requires.0 (exists-asks (task t s) (kind-read n c.before.in-6.keys3)) s.requires.1.1)
+    rw n.reads (child-asks s.requires.0 (exists-asks (task t s) (kind-read n c.before.in-6.is)) s.requires.1.1)
 
 propagate-quantify-requires : (t : ℕ) → propagate-lts.Need-quantify-requires (propagate-claims t) (propagate-at t) propagate.Post
 propagate-quantify-requires t c κs =
     let f = c.before.before.before.before in let s = begun t f in let n = node t f in let w = get_or s.args.nodes.now s.args.i 0 in
-    let a = exists-asks (task t s) (kind-read n c.before.before.before.in-6.keys3) in let g = child-grown (task t s) (under w) (rw n.reads at c.before.propagate-end-in-6.ensures) in
+    let a = exists-asks (task t s) (kind-read n c.before.before.before.in-6.is) in let g = child-grown (task t s) (under w) (rw n.reads at c.before.propagate-end-in-6.ensures) in
     (omega (arith, g.longer), omega (arith, g.short, a.room), n.variable_fits, g.again)
 
 propagate-propagate-requires-3 : (t : ℕ) → propagate-lts.Need-propagate-middle-requires (propagate-claims t) (propagate-at t) propagate.Post
@@ -153,11 +151,11 @@ propagate-unit-requires : (t : ℕ) → propagate-lts.Need-unit-requires (propag
 propagate-unit-requires t c κs = search rules
 
 -- Where the left subtree is a truth value: its last word.
-first-truth : (t : ℕ) (c : propagate-lts.Then-top_kind-eq0 (propagate-claims t) (propagate-at t) propagate.Post) → kind (get_or (now t c.before.before.before) (middle t c.before.before.before - 1) 0) ≡ 0
+first-truth : (t : ℕ) (c : propagate-lts.Then-top_kind-eq0 (propagate-claims t) (propagate-at t) propagate.Post) → kind (get_or (now t c.before.before.before.before) (middle t c.before.before.before.before - 1) 0) ≡ 0
 first-truth t c = kind-read c.before.fields-top.ensures c.if-top_kind-eq0.true
 
 -- The truth value that the node drops.
-dropped : (t : ℕ) (c : propagate-lts.After-unit (propagate-claims t) (propagate-at t) propagate.Post) → c.unit.result ≡ unit_word (kind (word t c.before.before.before.before))
+dropped : (t : ℕ) (c : propagate-lts.After-unit (propagate-claims t) (propagate-at t) propagate.Post) → c.unit.result ≡ unit_word (kind (word t c.before.before.before.before.before))
 dropped t c = rw (read t c.before.before.before.before.before).reads at c.unit.ensures
 
 propagate-returns : (t : ℕ) → propagate-lts.Need-returns-then-first-unit (propagate-claims t) (propagate-at t) propagate.Post
@@ -206,17 +204,17 @@ propagate-push-requires-2 t c κs =
 propagate-returns-3 : (t : ℕ) → propagate-lts.Need-returns-in-2 (propagate-claims t) (propagate-at t) propagate.Post
 propagate-returns-3 t c =
     let f = c.before.before.before.before in
-    equality-done (task t (begun t f)) (kind-read (node t f) c.before.before.before.in-2.keys1) c.before.equality.ensures c.push.ensures
+    equality-done (task t (begun t f)) (kind-read (node t f) c.before.before.before.in-2.is) c.before.equality.ensures c.push.ensures
 
 propagate-returns-4 : (t : ℕ) → propagate-lts.Need-returns-in-3 (propagate-claims t) (propagate-at t) propagate.Post
 propagate-returns-4 t c =
     let f = c.before.before.before.before.before in let n = node t f in
-    not_done (task t (begun t f)) (kind-read n c.before.before.before.before.in-3.keys2) (rw n.reads at c.before.before.propagate-end.ensures) c.negate.ensures
+    not_done (task t (begun t f)) (kind-read n c.before.before.before.before.in-3.is) (rw n.reads at c.before.before.propagate-end.ensures) c.negate.ensures
 
 propagate-returns-5 : (t : ℕ) → propagate-lts.Need-returns-in-6 (propagate-claims t) (propagate-at t) propagate.Post
 propagate-returns-5 t c =
     let f = c.before.before.before.before.before in let n = node t f in
-    exists-done (task t (begun t f)) (kind-read n c.before.before.before.before.in-6.keys3) (rw n.reads at c.before.before.propagate-end-in-6.ensures) (rw n.reads at c.quantify.ensures)
+    exists-done (task t (begun t f)) (kind-read n c.before.before.before.before.in-6.is) (rw n.reads at c.before.before.propagate-end-in-6.ensures) (rw n.reads at c.quantify.ensures)
 
 propagate-returns-6 : (t : ℕ) → propagate-lts.Need-returns-else-top_kind-eq0 (propagate-claims t) (propagate-at t) propagate.Post
 propagate-returns-6 t c =
@@ -227,7 +225,7 @@ propagate-returns-7 : (t : ℕ) → propagate-lts.Need-returns-in_default (propa
 propagate-returns-7 t c =
     let f = c.before.before.before.before in let s = begun t f in let r = c.before.before.before.in_default-1.rest in let k = ap (λ g. g.kind) (node t f).reads in
     leaf-done (task t s)
-    (⊎_elim (λ f. omega (arith, k, f.taken, r.0.0.1, r.0.1)) (λ f. omega (arith, k, f.1.left, r.1, node-kind (task t s))) c.before.before.in_default.branch)
+    (⊎_elim (λ f. omega (arith, k, f.taken, r.0.0.1, r.0.1)) (λ f. omega (arith, k, f.1.left, r.1, node-kind (task t s))) c.before.before.in_default.branch-raw)
     c.push-in_default.ensures
 
 pub +propagate_spec : {M : Type 1} → statement M

@@ -41,13 +41,13 @@ element-copy-out-result-5 : tie.Need-bounds-denieds-right-in-5
 element-copy-out-result-5 c = search rules
 
 returns : tie.Need-returns-in-3
-returns c = let n = c.before.before.before.fields-f.ensures in rw (n.reads, kind-read n c.before.before.in-3.keys1)
+returns c = let n = c.before.before.before.fields-f.ensures in rw (n.reads, kind-read n c.before.before.in-3.is)
 
 returns-2 : tie.Need-returns-in-4
-returns-2 c = let n = c.before.before.before.before.fields-f.ensures in rw (n.reads, kind-read n c.before.before.before.in-4.keys2)
+returns-2 c = let n = c.before.before.before.before.fields-f.ensures in rw (n.reads, kind-read n c.before.before.before.in-4.is)
 
 returns-3 : tie.Need-returns-in-5
-returns-3 c = let n = c.before.before.before.before.fields-f.ensures in rw (n.reads, kind-read n c.before.before.before.in-5.keys3)
+returns-3 c = let n = c.before.before.before.before.fields-f.ensures in rw (n.reads, kind-read n c.before.before.before.in-5.is)
 
 returns-4 : tie.Need-returns-in_default
 returns-4 c =

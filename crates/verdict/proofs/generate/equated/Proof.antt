@@ -16,7 +16,7 @@ use Rattle.verdict.proofs.generate.equated.Statement.{statement}
 use Rattle.verdict.proofs.generate.equated.Tie as tie
 
 -- The fields read are those of w.
-read : (c : tie.Else-term-variable) → c.before.before.before.fields.result ≡ fields_of c.before.before.before.before.args.w
+read : (c : tie.Else-term-variable) → c.before.before.before.fields-f.result ≡ fields_of c.before.before.before.before.args.w
 read c = c.before.before.before.fields-f.ensures.reads
 
 -- An equation of two variables, with the answers of the two tests: whether its term is in the set, and its variable.

@@ -13,7 +13,7 @@ fields-requires c κs = search rules
 returns : tie.Need-returns-then-truth-eq1
 returns c =
     let f = c.before.before.before in let n = f.fields-f.ensures in
-    rw (kind-read n c.before.in-0.keys1, eq-eqb (truth_bit f.before.args.w) 1 (rw n.reads at c.if-truth-eq1.true))
+    rw (kind-read n c.before.in-0.is, eq-eqb (truth_bit f.before.args.w) 1 (rw n.reads at c.if-truth-eq1.true))
 
 array-read-term-bits : tie.Need-bounds-terms-0
 array-read-term-bits c = search rules
@@ -33,7 +33,7 @@ term-bits-requires c κs = search rules
 returns-2 : tie.Need-returns-then-term-lt16
 returns-2 c =
     let f = c.before.before.before in let n = f.fields-f.ensures in
-    rw (kind-read n c.before.in-2.keys3, lt-ltb (equal_term f.before.args.w) 16 (rw n.reads at c.if-term-lt16.true))
+    rw (kind-read n c.before.in-2.is, lt-ltb (equal_term f.before.args.w) 16 (rw n.reads at c.if-term-lt16.true))
 
 term-bit-requires : tie.Need-term_bit-requires
 term-bit-requires c κs = search rules
@@ -110,31 +110,31 @@ leave-out-requires c κs = search rules
 returns-3 : tie.Need-returns-else-truth-eq1
 returns-3 c =
     let f = c.before.before.before in let n = f.fields-f.ensures in
-    rw (kind-read n c.before.in-0.keys1, ne_eqb (truth_bit f.before.args.w) 1 (rw n.reads at c.if-truth-eq1.false))
+    rw (kind-read n c.before.in-0.is, ne_eqb (truth_bit f.before.args.w) 1 (rw n.reads at c.if-truth-eq1.false))
 
 returns-4 : tie.Need-returns-in-1
 returns-4 c =
     let n = c.before.before.before.fields-f.ensures in
-    rw (kind-read n c.before.in-1.keys2) (rw n.reads at c.term_bits.ensures)
+    rw (kind-read n c.before.in-1.is) (rw n.reads at c.term_bits.ensures)
 
 returns-5 : tie.Need-returns-else-term-lt16
 returns-5 c =
     let f = c.before.before.before.before in let n = f.fields-f.ensures in
-    rw (kind-read n c.before.before.in-2.keys3, le-ltb (equal_term f.before.args.w) 16 (rw n.reads at c.before.if-term-lt16.false)) (rw n.reads at c.term_bit.ensures)
+    rw (kind-read n c.before.before.in-2.is, le-ltb (equal_term f.before.args.w) 16 (rw n.reads at c.before.if-term-lt16.false)) (rw n.reads at c.term_bit.ensures)
 
 returns-6 : tie.Need-returns-in-3
-returns-6 c = let n = c.before.before.before.before.fields-f.ensures in rw (n.reads, kind-read n c.before.before.in-3.keys4)
+returns-6 c = let n = c.before.before.before.before.fields-f.ensures in rw (n.reads, kind-read n c.before.before.in-3.is)
 
 returns-7 : tie.Need-returns-in-4
 returns-7 c =
     let e = c.before.before.before in let m = e.before.before.before.before.before in let n = m.before.before.before.before.fields-f.ensures in
-    rw (e.equated.ensures, c.equated-in-4.ensures, n.reads, kind-read n m.before.before.in-4.keys5)
+    rw (e.equated.ensures, c.equated-in-4.ensures, n.reads, kind-read n m.before.before.in-4.is)
 
 returns-8 : tie.Need-returns-in-5
-returns-8 c = let n = c.before.before.before.before.before.fields-f.ensures in rw (n.reads, kind-read n c.before.before.before.in-5.keys6)
+returns-8 c = let n = c.before.before.before.before.before.fields-f.ensures in rw (n.reads, kind-read n c.before.before.before.in-5.is)
 
 returns-9 : tie.Need-returns-in-6
-returns-9 c = let n = c.before.before.before.before.before.fields-f.ensures in rw (c.leave_out.ensures, n.reads, kind-read n c.before.before.before.in-6.keys7)
+returns-9 c = let n = c.before.before.before.before.before.fields-f.ensures in rw (c.leave_out.ensures, n.reads, kind-read n c.before.before.before.in-6.is)
 
 returns-10 : tie.Need-returns-in_default
 returns-10 c =

@@ -47,9 +47,9 @@ loop-again c =
       omega arith,
       l.invariant.1,
       ⊎_elim
-          (λ w. w.2 ∙ missing-more s.set s.columns.variables l.c c.before.before.wide-x.result l.missing (omega (arith, l.invariant.1)) c.before.before.wide-x.ensures.0 l.invariant.2 w.1.result w.1.ensures (says ∙ w.0.taken))
-          (λ w. w.1 ∙ missing-still s.set s.columns.variables l.c c.before.before.wide-x.result l.missing (omega (arith, l.invariant.1)) c.before.before.wide-x.ensures.0 l.invariant.2 (says ∙ w.0.left))
-          c.if-not-is_in.branch,
+          (λ w. w.missing-is ∙ missing-more s.set s.columns.variables l.c c.before.before.wide-x.result l.missing (omega (arith, l.invariant.1)) c.before.before.wide-x.ensures.0 l.invariant.2 w.term_bit-missing.result w.term_bit-missing.ensures (says ∙ w.if-not-is_in.true))
+          (λ w. w.missing-is ∙ missing-still s.set s.columns.variables l.c c.before.before.wide-x.result l.missing (omega (arith, l.invariant.1)) c.before.before.wide-x.ensures.0 l.invariant.2 (says ∙ w.if-not-is_in.false))
+          c.if-not-is_in.branch-raw,
     )
 
 returns : tie.Need-returns invariant-loop decreases-loop

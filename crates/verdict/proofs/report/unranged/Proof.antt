@@ -59,11 +59,11 @@ loop-again c =
     let p = is_unranged s.nodes.now in (
       omega arith,
       ⊎_elim
-          (λ v. v.5 ∙ bits-more p max_nodes l.i l.found l.invariant.1 v.4.result v.4.ensures (unranged-found s.nodes.now s.plains.now s.n l.i true t.requires.0 t.requires.1 (omega arith) (kind-read n v.0.taken) (ap not (sym (rw n.reads at v.2.ensures)) ∙ v.3.taken)))
+          (λ v. v.node_bit-found ∙ bits-more p max_nodes l.i l.found l.invariant.1 v.if-not-is_in.result v.if-not-is_in.ensures (unranged-found s.nodes.now s.plains.now s.n l.i true t.requires.0 t.requires.1 (omega arith) (kind-read n v.if-kind-eq6.true) (ap not (sym (rw n.reads at v.is_in-arg-1.ensures)) ∙ v.is_in.true)))
           (⊎_elim
-          (λ v. v.4 ∙ bits-still p max_nodes l.i l.found l.invariant.1 (unranged-found s.nodes.now s.plains.now s.n l.i false t.requires.0 t.requires.1 (omega arith) (kind-read n v.0.taken) (ap not (sym (rw n.reads at v.2.ensures)) ∙ v.3.left)))
-          (λ v. v.1 ∙ bits-still p max_nodes l.i l.found l.invariant.1 (unranged-other s.nodes.now l.i (kind-not-read n v.0.left))))
-          c.if-kind-eq6.branch,
+          (λ v. v.if-not-is_in ∙ bits-still p max_nodes l.i l.found l.invariant.1 (unranged-found s.nodes.now s.plains.now s.n l.i false t.requires.0 t.requires.1 (omega arith) (kind-read n v.if-kind-eq6.true) (ap not (sym (rw n.reads at v.is_in-arg-1.ensures)) ∙ v.is_in.false)))
+          (λ v. v.found-is ∙ bits-still p max_nodes l.i l.found l.invariant.1 (unranged-other s.nodes.now l.i (kind-not-read n v.if-kind-eq6.false))))
+          c.if-kind-eq6.branch-raw,
     )
 
 returns : tie.Need-returns invariant-loop decreases-loop

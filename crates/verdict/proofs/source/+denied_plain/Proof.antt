@@ -146,9 +146,8 @@ plain-claims t =
 module _ (t : ℕ) where
   -- Past the first test: where the function started, its node's fields, that node i generates x there, and that it is an or where the match names no other kind.
   abbrev denied-start : denied-lts.Else-not-is_in (denied-claims t) (denied_at t) denied.Post → denied-lts.Start (denied-claims t) (denied_at t) denied.Post
-  denied-start c = c.before.before.before.before.before.before
-
-  denied-node : (c : denied-lts.Else-not-is_in (denied-claims t) (denied_at t) denied.Post) → NodeOf (word (denied-start c).requires) c.before.before.before.fields.result
+  denied-start c = c.before.before.before.before.before.before.before
+  denied-node : (c : denied-lts.Else-not-is_in (denied-claims t) (denied_at t) denied.Post) → NodeOf (word (denied-start c).requires) c.before.before.before.before.fields-f.result
   denied-node c = c.before.before.before.before.fields-f.ensures
 
   denied-generates : (c : denied-lts.Else-not-is_in (denied-claims t) (denied_at t) denied.Post) → let a = (denied-start c).args in order.generates_denied a.nodes.now a.i a.x ≡ true
@@ -180,13 +179,13 @@ module _ (t : ℕ) where
       let g = c.before.before.before.before.before.before.before.requires in sym (law g order.denied-none (denied-self g c.before.is_in.ensures (not-true c.before.is_in.result c.if-not-is_in.true)))
 
   denied-plain-requires : denied-lts.Need-plain-requires (denied-claims t) (denied_at t) denied.Post
-  denied-plain-requires c κs = let n = denied-node c.before in rw n.reads (to-not (denied-start c.before).requires (kind-read n c.in-3.keys1))
+  denied-plain-requires c κs = let n = denied-node c.before in rw n.reads (to-not (denied-start c.before).requires (kind-read n c.in-3.is))
 
   denied-denied-requires : denied-lts.Need-denied-requires (denied-claims t) (denied_at t) denied.Post
-  denied-denied-requires c κs = let n = denied-node c.before in rw n.reads (to-left (denied-start c.before).requires (inl (kind-read n c.in-4.keys2)))
+  denied-denied-requires c κs = let n = denied-node c.before in rw n.reads (to-left (denied-start c.before).requires (inl (kind-read n c.in-4.is)))
 
   denied-denied-requires-2 : denied-lts.Need-denied-requires-in-4 (denied-claims t) (denied_at t) denied.Post
-  denied-denied-requires-2 c κs = let n = denied-node c.before.before in rw n.reads (to-right (denied-start c.before.before).requires (inl (kind-read n c.before.in-4.keys2)))
+  denied-denied-requires-2 c κs = let n = denied-node c.before.before in rw n.reads (to-right (denied-start c.before.before).requires (inl (kind-read n c.before.in-4.is)))
 
   denied-mul-is-in-2 : denied-lts.Need-offset_bounds-denieds-left (denied-claims t) (denied_at t) denied.Post
   denied-mul-is-in-2 c = search rules
@@ -211,12 +210,12 @@ module _ (t : ℕ) where
   denied-returns-3 : denied-lts.Need-returns-in-3 (denied-claims t) (denied_at t) denied.Post
   denied-returns-3 c =
       let n = denied-node c.before.before in
-      (rw n.reads at c.plain.ensures) ∙ sym (law (denied-start c.before.before).requires order.denied-not (kind-read n c.before.in-3.keys1))
+      (rw n.reads at c.plain.ensures) ∙ sym (law (denied-start c.before.before).requires order.denied-not (kind-read n c.before.in-3.is))
 
   denied-returns-4 : denied-lts.Need-returns-in-4 (denied-claims t) (denied_at t) denied.Post
   denied-returns-4 c =
       let at = c.before.before in let n = denied-node at.before in
-      rw (c.before.denied.ensures, c.denied-in-4.ensures, n.reads) (sym (law (denied-start at.before).requires order.denied-and (kind-read n at.in-4.keys2) (denied-generates at.before)))
+      rw (c.before.denied.ensures, c.denied-in-4.ensures, n.reads) (sym (law (denied-start at.before).requires order.denied-and (kind-read n at.in-4.is) (denied-generates at.before)))
 
   denied-returns-5 : denied-lts.Need-returns-else-is_in (denied-claims t) (denied_at t) denied.Post
   denied-returns-5 c =
@@ -228,9 +227,8 @@ module _ (t : ℕ) where
 module _ (t : ℕ) where
   -- Past the first test: where the function started, its node's fields, and that node i generates x there.
   abbrev plain-start : plain-lts.Else-not-is_in (plain-claims t) (plain_at t) plain.Post → plain-lts.Start (plain-claims t) (plain_at t) plain.Post
-  plain-start c = c.before.before.before.before.before.before
-
-  plain-node : (c : plain-lts.Else-not-is_in (plain-claims t) (plain_at t) plain.Post) → NodeOf (word (plain-start c).requires) c.before.before.before.fields.result
+  plain-start c = c.before.before.before.before.before.before.before
+  plain-node : (c : plain-lts.Else-not-is_in (plain-claims t) (plain_at t) plain.Post) → NodeOf (word (plain-start c).requires) c.before.before.before.before.fields-f.result
   plain-node c = c.before.before.before.before.fields-f.ensures
 
   plain-generates : (c : plain-lts.Else-not-is_in (plain-claims t) (plain_at t) plain.Post) → let a = (plain-start c).args in order.generates a.nodes.now a.i a.x ≡ true
@@ -240,7 +238,7 @@ module _ (t : ℕ) where
   plain-not-left : (c : plain-lts.Else-is_in (plain-claims t) (plain_at t) plain.Post) → let s = plain-start c.before.before.before.before in order.generates s.args.nodes.now (left (word s.requires)) s.args.x ≡ false
   plain-not-left c =
       let at = c.before.before.before in let n = plain-node at.before in
-      plain-left (plain-start at.before).requires (inl (kind-read n at.in-4.keys3)) (rw n.reads at c.before.is_in-in-4.ensures) c.if-is_in.false
+      plain-left (plain-start at.before).requires (inl (kind-read n at.in-4.is)) (rw n.reads at c.before.is_in-in-4.ensures) c.if-is_in.false
 
   abbrev plain-and : plain-lts.After-is_in-in-4-2 (plain-claims t) (plain_at t) plain.Post → plain-lts.In-4 (plain-claims t) (plain_at t) plain.Post
   plain-and c = c.before.before.before.before.before
@@ -249,21 +247,20 @@ module _ (t : ℕ) where
   plain-neither : (c : plain-lts.Else-is_in-2 (plain-claims t) (plain_at t) plain.Post) → let s = plain-start (plain-and c.before).before in order.generates s.args.nodes.now (right (word s.pre)) s.args.x ≡ false
   plain-neither c =
       let at = plain-and c.before in let n = plain-node at.before in
-      plain_right (plain-start at.before).requires (inl (kind-read n at.in-4.keys3)) (rw n.reads at c.before.is_in-in-4-2.ensures) c.if-is_in-2.false
+      plain_right (plain-start at.before).requires (inl (kind-read n at.in-4.is)) (rw n.reads at c.before.is_in-in-4-2.ensures) c.if-is_in-2.false
 
   -- The fourth tells whether the right child equates x with a variable that the left one generates.
   abbrev plain-third : plain-lts.After-is_in-in-4-3 (plain-claims t) (plain_at t) plain.Post → plain-lts.Else-is_in-2 (plain-claims t) (plain_at t) plain.Post
   plain-third c = c.before.before.before.before
-
   abbrev plain_by : plain-lts.After-is_in-in-4-3 (plain-claims t) (plain_at t) plain.Post → plain-lts.In-4 (plain-claims t) (plain_at t) plain.Post
   plain_by c = plain-and (plain-third c).before
 
   plain-told :
-      (c : plain-lts.After-is_in-in-4-3 (plain-claims t) (plain_at t) plain.Post) {b : Bool} → c.is-in4.result ≡ b →
+      (c : plain-lts.After-is_in-in-4-3 (plain-claims t) (plain_at t) plain.Post) {b : Bool} → c.is_in-in-4-3.result ≡ b →
       let s = plain-start (plain_by c).before in let ns = s.args.nodes.now in let w = word s.pre in has 16 (equated_set (get_or ns (right w) 0) (plain_bits ns (left w))) s.args.x ≡ b
   plain-told c e =
       let at = plain_by c in let g = (plain-start at.before).requires in let n = plain-node at.before in
-      equated-shown g (inl (kind-read n at.in-4.keys3)) (rw n.reads at c.before.equated.ensures) c.is_in-in-4-3.ensures e
+      equated-shown g (inl (kind-read n at.in-4.is)) (rw n.reads at c.before.equated.ensures) c.is_in-in-4-3.ensures e
 
   -- By the equality on one side, x has the nodes from which the other side generates the variable that it is equated with.
   abbrev Carried : plain-lts.After-is_in-in-4-3 (plain-claims t) (plain_at t) plain.Post → (ℕ → ℕ) → (ℕ → ℕ) → Type 0
@@ -276,12 +273,12 @@ module _ (t : ℕ) where
   plain-by-right : (c : plain-lts.Then-is_in-3 (plain-claims t) (plain_at t) plain.Post) → Carried c.before right left
   plain-by-right c =
       let past = plain-third c.before in let at = plain-and past.before in
-      law (plain-start at.before).requires order.nodes-and-by-right (kind-read (plain-node at.before) at.in-4.keys3) (plain-not-left past.before.before.before) (plain-neither past) (plain-told c.before c.if-is_in-3.true)
+      law (plain-start at.before).requires order.nodes-and-by-right (kind-read (plain-node at.before) at.in-4.is) (plain-not-left past.before.before.before) (plain-neither past) (plain-told c.before c.if-is_in-3.true)
 
   plain-by-left : (c : plain-lts.Else-is_in-3 (plain-claims t) (plain_at t) plain.Post) → Carried c.before left right
   plain-by-left c =
       let past = plain-third c.before in let at = plain-and past.before in
-      law (plain-start at.before).requires order.nodes-and-by-left (kind-read (plain-node at.before) at.in-4.keys3) (plain-generates at.before) (plain-not-left past.before.before.before) (plain-neither past) (plain-told c.before c.if-is_in-3.false)
+      law (plain-start at.before).requires order.nodes-and-by-left (kind-read (plain-node at.before) at.in-4.is) (plain-generates at.before) (plain-not-left past.before.before.before) (plain-neither past) (plain-told c.before c.if-is_in-3.false)
 
   plain-mul-w : plain-lts.Need-offset_bounds-all-i (plain-claims t) (plain_at t) plain.Post
   plain-mul-w c = search rules
@@ -306,7 +303,7 @@ module _ (t : ℕ) where
       let g = c.before.before.before.before.before.before.before.requires in sym (law g order.nodes-none (plain-self g c.before.is_in.ensures (not-true c.before.is_in.result c.if-not-is_in.true)))
 
   plain-denied-requires : plain-lts.Need-denied-requires (plain-claims t) (plain_at t) plain.Post
-  plain-denied-requires c κs = let n = plain-node c.before in rw n.reads (to-not (plain-start c.before).requires (kind-read n c.in-3.keys2))
+  plain-denied-requires c κs = let n = plain-node c.before in rw n.reads (to-not (plain-start c.before).requires (kind-read n c.in-3.is))
 
   plain-mul-is-in-2 : plain-lts.Need-offset_bounds-plains-left (plain-claims t) (plain_at t) plain.Post
   plain-mul-is-in-2 c = search rules
@@ -318,11 +315,11 @@ module _ (t : ℕ) where
   plain-is-in-requires-2 c κs = search rules
 
   plain-plain-requires : plain-lts.Need-plain-requires (plain-claims t) (plain_at t) plain.Post
-  plain-plain-requires c κs = let at = c.before.before.before in let n = plain-node at.before in rw n.reads (to-left (plain-start at.before).requires (inl (kind-read n at.in-4.keys3)))
+  plain-plain-requires c κs = let at = c.before.before.before in let n = plain-node at.before in rw n.reads (to-left (plain-start at.before).requires (inl (kind-read n at.in-4.is)))
 
   plain-returns-2 : plain-lts.Need-returns-then-is_in (plain-claims t) (plain_at t) plain.Post
   plain-returns-2 c =
-      let at = c.before.before.before.before in let g = (plain-start at.before).requires in let n = plain-node at.before in let k = kind-read n at.in-4.keys3 in
+      let at = c.before.before.before.before in let g = (plain-start at.before).requires in let n = plain-node at.before in let k = kind-read n at.in-4.is in
       (rw n.reads at c.plain.ensures) ∙ sym (law g order.nodes-and-left k (plain-left g (inl k) (rw n.reads at c.before.before.is_in-in-4.ensures) c.before.if-is_in.true))
 
   plain-mul-is-in-3 : plain-lts.Need-offset_bounds-plains-right (plain-claims t) (plain_at t) plain.Post
@@ -335,11 +332,11 @@ module _ (t : ℕ) where
   plain-is-in-requires-3 c κs = search rules
 
   plain-plain-requires-2 : plain-lts.Need-plain-requires-then-is_in-2 (plain-claims t) (plain_at t) plain.Post
-  plain-plain-requires-2 c κs = let at = plain-and c.before in let n = plain-node at.before in rw n.reads (to-right (plain-start at.before).requires (inl (kind-read n at.in-4.keys3)))
+  plain-plain-requires-2 c κs = let at = plain-and c.before in let n = plain-node at.before in rw n.reads (to-right (plain-start at.before).requires (inl (kind-read n at.in-4.is)))
 
   plain-returns-3 : plain-lts.Need-returns-then-is_in-2 (plain-claims t) (plain_at t) plain.Post
   plain-returns-3 c =
-      let at = plain-and c.before.before in let g = (plain-start at.before).requires in let n = plain-node at.before in let k = kind-read n at.in-4.keys3 in
+      let at = plain-and c.before.before in let g = (plain-start at.before).requires in let n = plain-node at.before in let k = kind-read n at.in-4.is in
       (rw n.reads at c.plain-then-is_in-2.ensures) ∙ sym (law g order.nodes-and-right k (plain-not-left c.before.before.before.before) (plain_right g (inl k) (rw n.reads at c.before.before.is_in-in-4-2.ensures) c.before.if-is_in-2.true))
 
   plain-mul-equated : plain-lts.Need-offset_bounds-all-right (plain-claims t) (plain_at t) plain.Post
@@ -372,7 +369,7 @@ module _ (t : ℕ) where
   plain-plain-requires-3 : plain-lts.Need-plain-requires-then-is_in-3 (plain-claims t) (plain_at t) plain.Post
   plain-plain-requires-3 c κs =
       let then = c.before.before in let at = plain_by then.before in let g = (plain-start at.before).requires in let n = plain-node at.before in
-      rw (c.other.ensures, n.reads) (to-child g (both-children (word g) (inl (kind-read n at.in-4.keys3))).0 (plain-by-right then).0)
+      rw (c.other.ensures, n.reads) (to-child g (both-children (word g) (inl (kind-read n at.in-4.is))).0 (plain-by-right then).0)
 
   plain-returns-4 : plain-lts.Need-returns-then-is_in-3 (plain-claims t) (plain_at t) plain.Post
   plain-returns-4 c =
@@ -391,27 +388,27 @@ module _ (t : ℕ) where
   plain-plain-requires-4 : plain-lts.Need-plain-requires-in-4 (plain-claims t) (plain_at t) plain.Post
   plain-plain-requires-4 c κs =
       let else4 = c.before.before in let at = plain_by else4.before in let g = (plain-start at.before).requires in let n = plain-node at.before in
-      rw (c.other-in-4.ensures, n.reads) (to-child g (both-children (word g) (inl (kind-read n at.in-4.keys3))).1 (plain-by-left else4).0)
+      rw (c.other-in-4.ensures, n.reads) (to-child g (both-children (word g) (inl (kind-read n at.in-4.is))).1 (plain-by-left else4).0)
 
   plain-plain-requires-5 : plain-lts.Need-plain-requires-in-5 (plain-claims t) (plain_at t) plain.Post
-  plain-plain-requires-5 c κs = let n = plain-node c.before in rw n.reads (to-left (plain-start c.before).requires (inr (kind-read n c.in-5.keys4)))
+  plain-plain-requires-5 c κs = let n = plain-node c.before in rw n.reads (to-left (plain-start c.before).requires (inr (kind-read n c.in-5.is)))
 
   plain-plain-requires-6 : plain-lts.Need-plain-requires-in-5-2 (plain-claims t) (plain_at t) plain.Post
-  plain-plain-requires-6 c κs = let n = plain-node c.before.before in rw n.reads (to-right (plain-start c.before.before).requires (inr (kind-read n c.before.in-5.keys4)))
+  plain-plain-requires-6 c κs = let n = plain-node c.before.before in rw n.reads (to-right (plain-start c.before.before).requires (inr (kind-read n c.before.in-5.is)))
 
   plain-plain-requires-7 : plain-lts.Need-plain-requires-in-6 (plain-claims t) (plain_at t) plain.Post
-  plain-plain-requires-7 c κs = let n = plain-node c.before in rw n.reads (to-exists (plain-start c.before).requires (kind-read n c.in-6.keys5))
+  plain-plain-requires-7 c κs = let n = plain-node c.before in rw n.reads (to-exists (plain-start c.before).requires (kind-read n c.in-6.is))
 
   plain-node-bit-requires : plain-lts.Need-node_bit-requires (plain-claims t) (plain_at t) plain.Post
   plain-node-bit-requires c κs = search rules
 
   plain-returns-5 : plain-lts.Need-returns-in-0 (plain-claims t) (plain_at t) plain.Post
-  plain-returns-5 c = sym (law (plain-start c.before).requires order.nodes-truth (kind-read (plain-node c.before) c.in-0.keys1))
+  plain-returns-5 c = sym (law (plain-start c.before).requires order.nodes-truth (kind-read (plain-node c.before) c.in-0.is))
 
   plain-returns-6 : plain-lts.Need-returns-in-3 (plain-claims t) (plain_at t) plain.Post
   plain-returns-6 c =
       let n = plain-node c.before.before in
-      (rw n.reads at c.denied.ensures) ∙ sym (law (plain-start c.before.before).requires order.nodes-not (kind-read n c.before.in-3.keys2))
+      (rw n.reads at c.denied.ensures) ∙ sym (law (plain-start c.before.before).requires order.nodes-not (kind-read n c.before.in-3.is))
 
   plain-returns-7 : plain-lts.Need-returns-else-is_in-3 (plain-claims t) (plain_at t) plain.Post
   plain-returns-7 c =
@@ -421,12 +418,12 @@ module _ (t : ℕ) where
   plain-returns-8 : plain-lts.Need-returns-in-5 (plain-claims t) (plain_at t) plain.Post
   plain-returns-8 c =
       let at = c.before.before in let n = plain-node at.before in
-      rw (c.before.plain-in-5.ensures, c.plain-in-5-2.ensures, n.reads) (sym (law (plain-start at.before).requires order.nodes-or (kind-read n at.in-5.keys4) (plain-generates at.before)))
+      rw (c.before.plain-in-5.ensures, c.plain-in-5-2.ensures, n.reads) (sym (law (plain-start at.before).requires order.nodes-or (kind-read n at.in-5.is) (plain-generates at.before)))
 
   plain-returns-9 : plain-lts.Need-returns-in-6 (plain-claims t) (plain_at t) plain.Post
   plain-returns-9 c =
       let at = c.before in let n = plain-node at.before in
-      (rw n.reads at c.plain-in-6.ensures) ∙ sym (law (plain-start at.before).requires order.nodes-exists (kind-read n at.in-6.keys5) (plain-generates at.before))
+      (rw n.reads at c.plain-in-6.ensures) ∙ sym (law (plain-start at.before).requires order.nodes-exists (kind-read n at.in-6.is) (plain-generates at.before))
 
   plain-returns-10 : plain-lts.Need-returns-in_default (plain-claims t) (plain_at t) plain.Post
   plain-returns-10 c =
