@@ -20,7 +20,7 @@ enum_told : tie.Need-enum_told-1
 enum_told c = search rules
 
 returns-2 : tie.Need-returns
-returns-2 c = let a = c.before.before.args in ap (λ r. listing_by r a.found a.safe a.columns) (sym c.enum_told-1.given.1)
+returns-2 c = let a = c.before.args in ap (λ r. listing_by r a.found a.safe a.columns) (sym c.enum_told-1.given.1)
 
 pub list_spec : {M : Type 1} → statement M
 list_spec = tie.close (tie.spec enum-known-answer refused-listing-requires returns enum_told returns-2)

@@ -46,14 +46,14 @@ whole c =
     let m = measured c in
     sym (extent-whole (bytes m)) ∙ ap (λ e. e.whole) (sym m.measure-extent.ensures) ∙ not-false m.measure-extent.result.whole c.if-not-extent.false
 
-heads : (c : tie.Else-not-extent) → (measured c).measure.result.head ≡ head_in (bytes (measured c))
+heads : (c : tie.Else-not-extent) → (measured c).measure-extent.result.head ≡ head_in (bytes (measured c))
 heads c = let m = measured c in ap (λ e. e.head) m.measure-extent.ensures ∙ extent-head (bytes m) (whole c)
 
-counts : (c : tie.Else-not-extent) → (measured c).measure.result.head.count ≡ count_in (bytes (measured c))
+counts : (c : tie.Else-not-extent) → (measured c).measure-extent.result.head.count ≡ count_in (bytes (measured c))
 counts c = ap (λ h. h.count) (heads c)
 
 -- Its records reach no further than its bytes, which are at most 8,192.
-reaches : (c : tie.Else-not-extent) → let n = (measured c).measure.result.head.count in (start n ≤ length (bytes (measured c))) × (n < 65536)
+reaches : (c : tie.Else-not-extent) → let n = (measured c).measure-extent.result.head.count in (start n ≤ length (bytes (measured c))) × (n < 65536)
 reaches c = let h = whole-lengths (bytes (measured c)) (whole c) in (omega (arith, h.2, counts c), omega (arith, h.0, h.2, counts c))
 
 -- The parts of its head are at hand.

@@ -63,7 +63,7 @@ trees s = tree_checks (widths s) (count_of_constants (bytes s)) (nodes_of (bytes
 
 -- The header is passed.
 abbrev start : tie.In_default → tie.Start
-start c = c.before.before.before.before
+start c = c.before.before.before
 passed : (c : tie.In_default) → Done ≡ first_cause (header_checks (widths (start c)) (bytes (start c)))
 passed c = sym c.enum_told-1.given.1 ∙ c.before.before.header-header.ensures
 

@@ -18,19 +18,19 @@ returns-2 c = rw (children-exists-read c.before.fields-f.ensures c.in-6.is, or-f
 
 returns-3 : tie.Need-returns-then-i-left
 returns-3 c =
-    let f = c.before.before.before.before in
+    let f = c.before.before.before in
     rw (children-two-read f.fields-f.ensures (omega arith) (omega arith), le-leb f.before.args.i f.fields-f.result.left c.if-i-left.true)
 
 returns-4 : tie.Need-returns-else-i-left
 returns-4 c =
-    let f = c.before.before.before.before in
+    let f = c.before.before.before in
     rw (children-two-read f.fields-f.ensures (omega arith) (omega arith), lt-leb f.before.args.i f.fields-f.result.left c.if-i-left.false, or-false)
 
 returns-5 : tie.Need-returns-in_default
-returns-5 c = rw (children-none-read c.before.before.fields-f.ensures c.before.in_default-1.rest.0.1 (λ e. omega arith) (λ e. omega arith) c.before.in_default-1.rest.1)
+returns-5 c = rw (children-none-read c.before.fields-f.ensures c.before.in_default-1.rest.0.1 (λ e. omega arith) (λ e. omega arith) c.before.in_default-1.rest.1)
 
 returns-6 : tie.Need-returns-in_default-2
-returns-6 c = rw (children-none-read c.before.before.before.fields-f.ensures c.before.before.in_default-1.rest.0.1 (λ e. omega arith) (λ e. omega arith) c.before.before.in_default-1.rest.1)
+returns-6 c = rw (children-none-read c.before.before.fields-f.ensures c.before.before.in_default-1.rest.0.1 (λ e. omega arith) (λ e. omega arith) c.before.before.in_default-1.rest.1)
 
 pub reaches_spec : {M : Type 1} → statement M
 reaches_spec =

@@ -92,7 +92,7 @@ returns-6 c =
     ∙ sym (free-of-kind x w (child s) 6 (kind-read f.fields-f.ensures c.before.in-6.is)))
 
 -- An and or an or.
-two : (c : tie.In-4) → let f = c.before.before.before.before in (4 ≤ kind f.before.args.w) × (kind f.before.args.w ≤ 5)
+two : (c : tie.In-4) → let f = c.before.before.before in (4 ≤ kind f.before.args.w) × (kind f.before.args.w ≤ 5)
 two c = kind-two-read c.before.before.before.before.fields-f.ensures (omega arith) (omega arith)
 
 returns-7 : tie.Need-returns-then-before-left
@@ -116,7 +116,7 @@ returns-9 c =
 
 returns-10 : tie.Need-returns-in_default-2
 returns-10 c =
-    let f = c.before.before.before.before in let s = f.before in
+    let f = c.before.before.before in let s = f.before in
     sym (free-of-none s.args.x s.args.w (child s) (inr (omega (arith, ap (λ f. f.kind) (read f), c.if-kind-lt6.false, c.before.before.in_default-1.rest.1))))
 
 pub free_in_node_spec : {M : Type 1} → statement M

@@ -110,7 +110,7 @@ returns-4 c =
     ∙ sym (set-of-exists s.before.args.w (child s) (kind-read f.before.fields-f.ensures c.before.before.before.in-6.is))
 
 -- An and or an or.
-two : (c : tie.In-4) → let f = c.before.before.before.before in (4 ≤ kind f.before.args.w) × (kind f.before.args.w ≤ 5)
+two : (c : tie.In-4) → let f = c.before.before.before in (4 ≤ kind f.before.args.w) × (kind f.before.args.w ≤ 5)
 two c = kind-two-read c.before.before.before.before.fields-f.ensures (omega arith) (omega arith)
 
 returns-5 : tie.Need-returns-in-4
@@ -125,7 +125,7 @@ returns-6 c =
 
 returns-7 : tie.Need-returns-in_default-2
 returns-7 c =
-    let f = c.before.before.before.before in let s = f.before in
+    let f = c.before.before.before in let s = f.before in
     sym (set-of-none s.args.w (child s) (inr (omega (arith, ap (λ f. f.kind) (read f), c.if-kind-lt6.false, c.before.before.in_default-1.rest.1))))
 
 pub set_in_node_spec : {M : Type 1} → statement M

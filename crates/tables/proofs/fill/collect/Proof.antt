@@ -15,7 +15,7 @@ enum_told c = search rules
 
 returns : tie.Need-returns-in-Refused
 returns c =
-    let s = c.before.before.before in let was = c.enum_told-1.given in
+    let s = c.before.before in let was = c.enum_told-1.given in
     collected-refused s.args.f (offered s) was.0.0 was.0.1.0 was.1
 
 enum-told-2 : tie.Need-enum_told-in_default
@@ -26,7 +26,7 @@ none-requires c κs = search rules
 
 returns-2 : tie.Need-returns-then-count-gt-PLACES
 returns-2 c =
-    let s = c.before.before.before.before.before in let e = c.before in
+    let s = c.before.before.before.before in let e = c.before in
     collected-over s.args.f (offered s) e.before.enum_told-in_default-1.given.1 e.if-count-gt-PLACES.true c.none.result c.none.ensures
 
 insert-requires : tie.Need-insert-added-requires
@@ -40,7 +40,7 @@ enum-known-reply c = search rules
 
 returns-3 : tie.Need-returns-then-number-eq14
 returns-3 c =
-    let s = c.before.before.before.before.before.before.before.before.before in let e = c.before.before.before.before.before in let put = c.before.before.before.before.insert-added in let reply = c.before.before.reply-1.given in
+    let s = c.before.before.before.before.before.before.before.before in let e = c.before.before.before.before.before in let put = c.before.before.before.before.insert-added in let reply = c.before.before.reply-1.given in
     collected-repeat s.args.f (offered s) e.before.enum_told-in_default-1.given.1 e.if-count-gt-PLACES.false put.result put.ensures reply.0.0 reply.0.1.0 reply.1 c.if-number-eq14.true
 
 none-requires-2 : tie.Need-none-requires-in-Refused-reply
@@ -48,12 +48,12 @@ none-requires-2 c κs = search rules
 
 returns-4 : tie.Need-returns-in-Done
 returns-4 c =
-    let s = c.before.before.before.before.before.before.before in let e = c.before.before.before in let put = c.before.before.insert-added in
+    let s = c.before.before.before.before.before.before in let e = c.before.before.before in let put = c.before.before.insert-added in
     collected-put s.args.f (offered s) e.before.enum_told-in_default-1.given.1 e.if-count-gt-PLACES.false put.result put.ensures c.enum_told-in-Done-1.given.1
 
 returns-5 : tie.Need-returns-else-number-eq14
 returns-5 c =
-    let s = c.before.before.before.before.before.before.before.before.before.before in let e = c.before.before.before.before.before.before in let put = c.before.before.before.before.before.insert-added in let reply = c.before.before.before.reply-1.given in
+    let s = c.before.before.before.before.before.before.before.before.before in let e = c.before.before.before.before.before.before in let put = c.before.before.before.before.before.insert-added in let reply = c.before.before.before.reply-1.given in
     collected-ended
     s.args.f
     (offered s)

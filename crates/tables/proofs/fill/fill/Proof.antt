@@ -157,7 +157,7 @@ module _ {M : Type 1} {𝓤 : Ura M} (𝓛 : Logic 𝓤) (at_mem : Memory → SP
   abbrev to-begin : (Begin 𝓛 at_mem run).Ghost
   to-begin = ((tt, tt, tt, (ws, tt), (machW ws ∷ [], tt)), tt)
 
-  goes-begin : ent 𝓤 (sem 𝓛 (Widths.own_val ws (machW ws ∷ []))) ((Begin 𝓛 at_mem run).pre to-begin)
+  goes-begin : ent 𝓤 (sem 𝓛 (Widths.own_val ws (machW ws ∷ []))) ((Begin 𝓛 at_mem run).requires to-begin)
   goes-begin = qed 𝓛 (‵ (Widths.own_val ws (machW ws ∷ [])) ∷ []) ∵ nothing ! $ move ! (1 ∷ 0 ∷ []) $ fjoin ! $ nothing ! $ join ! $ frame ! $ done !
 
   begin-said : (u : Changed) → ent 𝓤 (ensured 𝓛 begin.ended (begin.clauses 𝓛 at_mem run) tt (ws, tt) tt u) (fact 𝓤 (u ≡ beginning ws))
@@ -175,7 +175,7 @@ module _ {M : Type 1} {𝓤 : Ura M} (𝓛 : Logic 𝓤) (at_mem : Memory → SP
   to-collect t v r =
       ((tt, tt, tt, parts t r, (v ∷ [], (vint w8 r.relation ∷ [], (vint w32 r.first ∷ [], (vint w32 r.second ∷ [], (vint w32 r.third ∷ [], (vint w32 r.fourth ∷ [], tt))))))), tt)
 
-  goes-collect : (t : Changed) (v : Val) (r : Rec) → Is I.the_row r (machI r ∷ []) → ent 𝓤 (sem 𝓛 ((S.the_row).own_val t (v ∷ []))) ((Collect 𝓛 at_mem run).pre (to-collect t v r))
+  goes-collect : (t : Changed) (v : Val) (r : Rec) → Is I.the_row r (machI r ∷ []) → ent 𝓤 (sem 𝓛 ((S.the_row).own_val t (v ∷ []))) ((Collect 𝓛 at_mem run).requires (to-collect t v r))
   goes-collect t v r g =
       let fit = LL.owed I.the_type I'.the_laws r _ g in
       qed 𝓛 (‵ ((S.the_row).own_val t (v ∷ [])) ∷ []) ∵ nothing ! $ owned ! u32 (Is u32) (uint_Makes 𝓛 w32) r.fourth _ (refl, fit.1.1.1.1.0.1) $ fjoin ! $
@@ -222,7 +222,7 @@ module _ {M : Type 1} {𝓤 : Ura M} (𝓛 : Logic 𝓤) (at_mem : Memory → SP
         -- the copy is named r, and its parts are handed over
         assigns ! (of_opd ! (load ! (from ! (stop !)) (look ! 2 refl))) (from ! (stop !)) (init ! 10 refl ((LL.lawful I.the_type I'.the_laws 𝓛).typed r _ g).0) $
         owned ! S.the_row (Is S.the_row) (LL.makes S.the_type S'.the_plain 𝓛) y.t _ y.is $
-        use1 𝓛 (raw ((Collect 𝓛 at_mem run).pre (to-collect y.t y.v r))) (goes-collect y.t y.v r g) $
+        use1 𝓛 (raw ((Collect 𝓛 at_mem run).requires (to-collect y.t y.v r))) (goes-collect y.t y.v r g) $
         calls_at ! fm (Collect 𝓛 at_mem run) known (to-collect y.t y.v r) (and_then ! (load ! (from ! (stop !)) (look ! 15 refl))
         (and_then ! (load ! (from ! (fld ! refl (stop !))) (look_in ! 11 (sub ! 0 refl (whole !)))) (and_then ! (load ! (from ! (fld ! refl (stop !))) (look_in ! 11 (sub ! 1 refl (whole !))))
         (and_then ! (load ! (from ! (fld ! refl (stop !))) (look_in ! 11 (sub ! 2 refl (whole !)))) (and_then ! (load ! (from ! (fld ! refl (stop !))) (look_in ! 11 (sub ! 3 refl (whole !))))
@@ -282,7 +282,7 @@ module _ {M : Type 1} {𝓤 : Ura M} (𝓛 : Logic 𝓤) (at_mem : Memory → SP
       alloc1 ! (λ l₀. alloc1 ! (λ l₁. alloc1 ! (λ l₂. alloc1 ! (λ l₃. alloc1 ! (λ l₄. alloc1 ! (λ l₅. alloc1 ! (λ l₆. alloc1 ! (λ l₇. alloc1 ! (λ l₈. alloc1 ! (λ l₉. alloc0 ! $ params1 ! $
       pass1 ! (init ! 16 refl ((widths-laws.lawful 𝓛).typed ws _ gw).0) $ pass1 ! (init ! 14 refl (tt, (tt, (record { fits = rm.0 }, tt)))) $ pass0 ! $
       -- [_9; …; _8; …; _7; …; _6; …; _5; …; _4; …; _3; …; _2; …; _1; …; _0; …; the token; what the parameters own]
-      move ! (21 ∷ []) $ fsplit ! $ use1 𝓛 (raw ((Begin 𝓛 at_mem run).pre to-begin)) goes-begin $
+      move ! (21 ∷ []) $ fsplit ! $ use1 𝓛 (raw ((Begin 𝓛 at_mem run).requires to-begin)) goes-begin $
       calls_at ! fm (Begin 𝓛 at_mem run) begins to-begin (and_then ! (load ! (from ! (stop !)) (look ! 18 refl)) (no_more !)) (λ w.
       use1 𝓛 (later (some (λ (u : Changed). (‵ ftrue ⊛ ‵ ((S.the_row).own_val u (w ∷ []))) ⊛ raw (ensured 𝓛 begin.ended (begin.clauses 𝓛 at_mem run) tt (ws, tt) tt u)))) (id⊢ 𝓤 _) $ await ! tt $ pick ! (λ u.
       split ! $ move ! (1 ∷ []) $ use1 𝓛 (raw (fact 𝓤 (u ≡ beginning ws))) (begin-said u) $ heard ! (u ≡ beginning ws) (λ e. split ! $ drop ! $

@@ -160,7 +160,7 @@ module _ {M : Type 1} {𝓤 : Ura M} (𝓛 : Logic 𝓤) (at_mem : Memory → SP
     abbrev to_fill : (Fill 𝓛 at_mem run).Ghost
     to_fill = (((α ∷ [], tt), (full_share, tt), tt, (ws, (ref, tt)), (machW ws ∷ [], (slice_val (l, 0) (length rs) ∷ [], tt))), tt)
 
-    goes-fill : ent 𝓤 (⋆ 𝓛 (‵ (Widths.own_val ws (machW ws ∷ [])) ∷ ‵ Own ∷ ‵ (flft (α ∷ []) full_share) ∷ [])) ((Fill 𝓛 at_mem run).pre to_fill)
+    goes-fill : ent 𝓤 (⋆ 𝓛 (‵ (Widths.own_val ws (machW ws ∷ [])) ∷ ‵ Own ∷ ‵ (flft (α ∷ []) full_share) ∷ [])) ((Fill 𝓛 at_mem run).requires to_fill)
     goes-fill =
         qed 𝓛 (‵ (Widths.own_val ws (machW ws ∷ [])) ∷ ‵ Own ∷ ‵ (flft (α ∷ []) full_share) ∷ []) ∵
         nothing ! $ move ! (2 ∷ 0 ∷ []) $ fjoin ! $ move ! (1 ∷ 0 ∷ []) $ fjoin ! $ nothing ! $ move ! (2 ∷ 0 ∷ []) $ join ! $ join ! $ frame ! $ done !
@@ -184,7 +184,7 @@ module _ {M : Type 1} {𝓤 : Ura M} (𝓛 : Logic 𝓤) (at_mem : Memory → SP
         lft_new ! tt (λ α. move ! (1 ∷ []) $
         use1 𝓛 (later (some (λ (γ : GName). ‵ (Own α l₃ γ) ⊛ ‵ (flent (α ∷ []) (Parts l₃))))) (lends_shr_slice 𝓛 I.the_row (named 0) (α ∷ []) full_share rs l₃ 0 room) $ await ! tt $ pick ! (λ γ. split ! $
         -- [what the slice owns; the lender's part; the token; true; what the widths own; _5; …; _4; …; what frees _3; _2; …; _1; …; room for _0; …; true]
-        move ! (4 ∷ 0 ∷ 2 ∷ []) $ use3 𝓛 (raw ((Fill 𝓛 at_mem run).pre (to_fill α l₃ γ))) (goes-fill α l₃ γ) $
+        move ! (4 ∷ 0 ∷ 2 ∷ []) $ use3 𝓛 (raw ((Fill 𝓛 at_mem run).requires (to_fill α l₃ γ))) (goes-fill α l₃ γ) $
         calls_at ! fm (Fill 𝓛 at_mem run) known (to_fill α l₃ γ) (and_then ! (load ! (from ! (stop !)) (look ! 10 refl)) (and_then ! (load ! (from ! (stop !)) (look ! 3 refl)) (no_more !))) (λ w.
         use1 𝓛 (later (some (λ (u : Changed). ((‵ (flft (α ∷ []) full_share) ⊛ ‵ ftrue) ⊛ ‵ ((S.the_row).own_val u (w ∷ []))) ⊛ raw (ensured 𝓛 fill.ended (fill.clauses 𝓛 at_mem run) (α ∷ [], tt) (ws, (ref α l₃ γ, tt)) tt u)))) (id⊢ 𝓤 _) $ await ! tt $ pick ! (λ u.
         split ! $ move ! (1 ∷ []) $ use1 𝓛 (raw (fact 𝓤 (u ≡ fill_reply ws rs))) (fill-said α l₃ γ u) $ heard ! (u ≡ fill_reply ws rs) (λ e. split ! $ move ! (1 ∷ []) $

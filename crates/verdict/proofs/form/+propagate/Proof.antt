@@ -64,7 +64,7 @@ join-of t c =
 -- Its left subtree is written, up to `middle`.
 module _ (t : ℕ) (c : propagate-lts.After-propagate-middle (propagate-claims t) (propagate-at t) propagate.Post) where
   abbrev start : propagate-lts.Start (propagate-claims t) (propagate-at t) propagate.Post
-  start = c.before.before.before.before.before.before.before.before
+  start = c.before.before.before.before.before.before.before
   abbrev read : NodeOf (get_or start.args.nodes.now start.args.i 0) c.before.before.before.before.before.fields-f.result
   read = node t c.before.before.before.before.before
 

@@ -19,12 +19,12 @@ push-requires c κs = search rules
 
 returns : tie.Need-returns-then-is_free
 returns c =
-    let s = c.before.before.before.before.before.before in let out = s.args.out.now in let end = s.args.end in
+    let s = c.before.before.before.before.before in let out = s.args.out.now in let end = s.args.end in
     quantified-kept out end s.requires.0 s.requires.1 s.requires.3 s.args.x (sym c.before.before.before.before.is_free.ensures ∙ c.before.before.before.if-is_free.true) (rw c.before.existence.ensures at c.push.ensures)
 
 returns-2 : tie.Need-returns
 returns-2 c =
-    let s = c.before.before.before in let out = s.args.out.now in let end = s.args.end in
+    let s = c.before.before in let out = s.args.out.now in let end = s.args.end in
     quantified-dropped out end s.requires.0 s.requires.1 s.requires.3 s.args.x (sym c.before.is_free.ensures ∙ c.if-is_free.false)
 
 pub quantify_spec : {M : Type 1} → statement M

@@ -244,7 +244,7 @@ module _ (t : ℕ) where
   plain-and c = c.before.before.before.before.before
 
   -- Past the third neither child does.
-  plain-neither : (c : plain-lts.Else-is_in-2 (plain-claims t) (plain_at t) plain.Post) → let s = plain-start (plain-and c.before).before in order.generates s.args.nodes.now (right (word s.pre)) s.args.x ≡ false
+  plain-neither : (c : plain-lts.Else-is_in-2 (plain-claims t) (plain_at t) plain.Post) → let s = plain-start (plain-and c.before).before in order.generates s.args.nodes.now (right (word s.requires)) s.args.x ≡ false
   plain-neither c =
       let at = plain-and c.before in let n = plain-node at.before in
       plain_right (plain-start at.before).requires (inl (kind-read n at.in-4.is)) (rw n.reads at c.before.is_in-in-4-2.ensures) c.if-is_in-2.false
@@ -257,7 +257,7 @@ module _ (t : ℕ) where
 
   plain-told :
       (c : plain-lts.After-is_in-in-4-3 (plain-claims t) (plain_at t) plain.Post) {b : Bool} → c.is_in-in-4-3.result ≡ b →
-      let s = plain-start (plain_by c).before in let ns = s.args.nodes.now in let w = word s.pre in has 16 (equated_set (get_or ns (right w) 0) (plain_bits ns (left w))) s.args.x ≡ b
+      let s = plain-start (plain_by c).before in let ns = s.args.nodes.now in let w = word s.requires in has 16 (equated_set (get_or ns (right w) 0) (plain_bits ns (left w))) s.args.x ≡ b
   plain-told c e =
       let at = plain_by c in let g = (plain-start at.before).requires in let n = plain-node at.before in
       equated-shown g (inl (kind-read n at.in-4.is)) (rw n.reads at c.before.equated.ensures) c.is_in-in-4-3.ensures e
@@ -266,8 +266,8 @@ module _ (t : ℕ) where
   abbrev Carried : plain-lts.After-is_in-in-4-3 (plain-claims t) (plain_at t) plain.Post → (ℕ → ℕ) → (ℕ → ℕ) → Type 0
   Carried c side other =
       let s = plain-start (plain_by c).before in let ns = s.args.nodes.now in
-      let y = other_side (get_or ns (side (word s.pre)) 0) s.args.x in
-      (y < 16) × (plain_nodes ns s.args.i s.args.x ≡ plain_nodes ns (other (word s.pre)) y)
+      let y = other_side (get_or ns (side (word s.requires)) 0) s.args.x in
+      (y < 16) × (plain_nodes ns s.args.i s.args.x ≡ plain_nodes ns (other (word s.requires)) y)
 
   -- Where the fourth test holds, that is the equality on the right; else the one on the left.
   plain-by-right : (c : plain-lts.Then-is_in-3 (plain-claims t) (plain_at t) plain.Post) → Carried c.before right left
