@@ -22,7 +22,7 @@ BETWEEN = {"use": r"[^\w]+", "antt": r"[\s(){}.;,]+"}
 
 
 def used(name, tokens):
-    parts = [p for p in name.split("_") if p] if "_" in name and name not in tokens else [name]
+    parts = [p for p in name.split("◌") if p]
     return all(p in tokens for p in parts)
 
 
@@ -51,7 +51,7 @@ def main():
     fix = parser.parse_args().fix
     os.chdir(HERE)
     found = 0
-    for path in sorted(p for p in pathlib.Path("crates").rglob("*") if p.suffix in KINDS):
+    for path in sorted(p for p in pathlib.Path("crates").rglob("*") if p.suffix in KINDS and p.parts[2] != "out"):
         text = path.read_text()
         for line, idle, mended in list(unused(text, *KINDS[path.suffix])):
             if fix:

@@ -1,5 +1,9 @@
 #!/usr/bin/env python3
-"""The wrong programs of crates/*/must-fail, against the prover's logs and docs/PROMISES.md.
+"""The wrong programs of crates/*/must-fail, against the prover and docs/PROMISES.md.
+
+must_fail.py            what is said of the edits, against what the last `rt ci` of tests/run printed (target/ci.log)
+must_fail.py --each     tries every wrong program alone, once `rt ci` or `rt check` has built the crates (some ten minutes)
+must_fail.py --write    writes the table of docs/PROMISES.md anew
 
 An edit file holds one or more wrong programs. Each starts with its name and what is wrong, then the facts that can't be proved of it, then its changes:
 
@@ -15,18 +19,25 @@ alone. A definition moves everything above it, and a change of one has a file to
 
 Fails where
 - an edit file isn't of this form, or two of its programs change one function;
-- the log of an edit (target/must-fail/CRATE/FILE/.log, which `rt ci` and `rt must-fail` write) lacks a fact named, or has it only because another failed;
+- `rt ci` didn't say of an edit that it is refused, or named first a fact that none of its programs names;
+- with --each, a wrong program alone is proved, or a fact that it names doesn't fail, or only because another failed;
 - the table of wrong programs in docs/PROMISES.md is not the one that the files make;
-- docs/PROMISES.md leaves a wrong program out, or cites a name that no wrong program and no function has.
+- docs/PROMISES.md leaves a wrong program out, or cites a name that no wrong program, no function and no definition has.
 """
+import concurrent.futures
+import os
 import pathlib
 import re
+import shutil
+import subprocess
 import sys
+import tempfile
 
 import options
 
 ROOT = pathlib.Path(__file__).resolve().parent.parent
 PROMISES = ROOT / "docs" / "PROMISES.md"
+KIT = pathlib.Path("/opt/rattle")
 FIRST, LAST = "<!-- made by tests/must_fail.py --write: from here -->", "<!-- to here -->"
 
 
@@ -90,7 +101,8 @@ def is_proof_of(function, fact, file):
     """Whether a fact of a proof file is one of this function: in a proof of functions that call each other, each fact has the name of its own first."""
     *module, name = function.split("/")
     *folder, last = file.split("/")[1:]
-    return file.startswith("proofs/") and folder == module and (last == name or name in last.split("+") and (fact.startswith(name.replace("_", "-") + "-") or last == f"+{name}"))
+    of_cycle = last.startswith("+") and (last == f"+{name}" or f"_{name}_" in f"_{last[1:]}_" and fact.replace("_", "-").startswith(name.replace("_", "-") + "-"))
+    return file.startswith("proofs/") and folder == module and (last == name or of_cycle)
 
 
 def programs_of(path):
@@ -131,22 +143,20 @@ def all_programs(problems):
     return found
 
 
-# ---- the logs
+# ---- what the prover says
 
-def log_of(program):
-    return ROOT / "target" / "must-fail" / program.crate() / program.path.stem / ".log"
-
+LOG = ROOT / "target" / "ci.log"
 
 # A message that tells nothing of the program: the fact only follows from another, or the proof file no longer fits the code's shape.
-EMPTY = re.compile(r"was not admitted \(|that can be named from here|has no field `")
+EMPTY = re.compile(r"was not admitted|that can be named from here|has no field `|not checked: ")
 
 
-def failures(log):
+def failures(text):
     """What a log shows as failing, as fact and file. Of a function without a proof file the log names what `search` does not find."""
     found = []
-    for line in log.read_text(errors="replace").split("\n"):
-        fact = re.match(r".*?/must-fail/[^/]+/[^/]+/(\S+?)(?:/Proof)?\.(?:antt|rt):\d+:\d+: error: `([^`]*)`: (.*)", line)
-        made = re.match(r"fn .*: no proof: expected \S+ in \S*?/(proofs/\S+)/Proof\.antt; `search` does not close (.*)", line)
+    for line in text.split("\n"):
+        fact = re.match(r"(?:so far: )?(?:\./)?(?:\S*?must-fail \S+: refused, as it must be: (?:\./)?)?((?:specs|proofs|src)/\S+?)(?:/Proof|/Answers|/Invariants)?\.(?:antt|rt):\d+:\d+: error: `([^`]*)`: (.*)", line)
+        made = re.match(r"(?:so far: )?fn .*: no proof: expected .*? in (?:\./)?(proofs/\S+)/\w+\.antt; `search` did not prove (.*)", line)
         if fact and not EMPTY.search(fact[3]):
             found.append((fact[2], fact[1]))
         elif made:
@@ -154,15 +164,68 @@ def failures(log):
     return found
 
 
-def check_logs(programs, problems):
-    for path in dict.fromkeys(p.path for p in programs if not log_of(p).exists()):
-        problems.append(f"{path.relative_to(ROOT)}: no log: `rt ci` or `rt must-fail {path.parent.parent.name}` writes it")
-    for program in programs:
-        failed = failures(log_of(program)) if log_of(program).exists() else program.facts
-        for fact, file in program.facts:
-            if (fact, file) not in failed:
-                shown = ", ".join(f"{f} in {p}" for f, p in dict.fromkeys(failed)) or "nothing"
-                problems.append(f"{program.crate()}, {program.name}: {fact} in {file} doesn't fail; what fails: {shown}")
+def check_log(programs, problems):
+    """What `rt ci` printed of each edit: that it is refused, and a first fact that fails, which one of its programs names."""
+    if not LOG.exists():
+        problems.append(f"no log {LOG.relative_to(ROOT)}: tests/run writes it")
+        return
+    said = dict(re.findall(r"^rt: must-fail (\S+)\.edit: (.*)$", LOG.read_text(errors="replace"), re.M))
+    for path in dict.fromkeys(p.path for p in programs):
+        edit = f"{path.parent.parent.name}/{path.stem}"
+        line = said.get(edit, "")
+        if not line.startswith("refused, as it must be"):
+            problems.append(f"{edit}: not refused: {line or 'rt ci says nothing of it'}")
+            continue
+        named = [fact for p in programs if p.path == path for fact in p.facts]
+        first = failures(line.partition("refused, as it must be: ")[2])
+        if first and not set(first) & set(named):
+            problems.append(f"{edit}: {first[0][0]} in {first[0][1]} fails first, and none of its programs names it")
+
+
+def try_alone(program, deps):
+    """The log of a check of the crate with this wrong program alone."""
+    crate = program.path.parent.parent
+    with tempfile.TemporaryDirectory(prefix="must-fail-") as room:
+        for part in ("src", "specs", "proofs"):
+            if (crate / part).is_dir():
+                shutil.copytree(crate / part, f"{room}/{part}")
+        for file, old, new in program.changes:
+            text = pathlib.Path(room, file).read_text()
+            if text.count(old) != 1:
+                return f"an 'old:' text is in {file} {text.count(old)} times"
+            pathlib.Path(room, file).write_text(text.replace(old, new))
+        words = [KIT / "bin" / "rattle", "check", "--crate-name", crate.name, "src/main.rt" if (crate / "src" / "main.rt").exists() else "src/lib.rt"]
+        words += ["--extern", f"std={KIT}/rlibs/std.rlib", "-L", f"dependency={KIT}/rlibs"]
+        for dep in deps[crate.name]:
+            rlib = ROOT / "crates" / dep / "out" / "rlib"
+            words += ["--extern", f"{dep}={rlib}/{dep}.rlib", "-L", f"dependency={rlib}"]
+        words += ["--antt-project", KIT / "rattle" / "logic" / "antt-project.json", "--logic-built", KIT / "logic_built", "--links", f"{crate.name}=", "--jobs", "1"]
+        if "staticlib" in deps[f"{crate.name} kind"]:
+            words += ["--crate-type", "staticlib"]
+        kept = crate / "out" / "incremental"
+        if kept.is_dir():
+            subprocess.run(["cp", "-al", kept, f"{room}/kept"], check=True)
+            words += ["--incremental", f"{room}/kept"]
+        functions = program.functions()
+        if None not in functions:
+            for function in functions:
+                words += ["--only", function.replace("/", "::")]
+        return subprocess.run(words, cwd=room, stdin=subprocess.DEVNULL, stdout=subprocess.PIPE, stderr=subprocess.STDOUT, text=True, errors="replace").stdout
+
+
+def check_each(programs, problems):
+    deps = {}
+    for line in (ROOT / "crates.txt").read_text().split("\n"):
+        if line and line[0] != "#":
+            name, _, rest = line.partition(":")
+            deps[name.split()[0]], deps[name.split()[0] + " kind"] = rest.split(), name.split()[1:]
+    with concurrent.futures.ThreadPoolExecutor(os.cpu_count()) as pool:
+        for program, log in zip(programs, pool.map(lambda p: try_alone(p, deps), programs), strict=True):
+            failed = failures(log)
+            for fact, file in program.facts:
+                if (fact, file) not in failed:
+                    shown = ", ".join(f"{f} in {p}" for f, p in dict.fromkeys(failed)) or log.strip().split("\n")[-1][:200]
+                    problems.append(f"{program.crate()}/{program.path.stem}, {program.name}: {fact} in {file} doesn't fail; what fails: {shown}")
 
 
 # ---- the promises
@@ -201,6 +264,8 @@ def check_promises(programs, problems):
     names = {p.name for p in programs}
     sources = "\n".join(p.read_text() for p in ROOT.glob("crates/*/src/*.rt"))
     functions = set(re.findall(r"fn (\w+)", sources))
+    theory = "\n".join(p.read_text() for p in ROOT.glob("crates/*/*/**/*.antt") if p.relative_to(ROOT).parts[2] in ("specs", "proofs"))
+    functions |= set(re.findall(r"^ *(?:(?:abbrev|unfoldable) )?(?:pub )?(?:data |record )?(\w+) :", theory, re.M))
     for name in sorted(names - cited):
         problems.append(f"docs/PROMISES.md: no promise says that {name} tries it")
     for name in sorted(cited - names - functions):
@@ -210,21 +275,18 @@ def check_promises(programs, problems):
 def main():
     parser = options.Options(__doc__)
     parser.add_argument("--write", action="store_true", help="write the table of docs/PROMISES.md anew")
-    parser.add_argument("--facts", metavar="CRATE/FILE", help="print what a log shows as failing: crates/CRATE/must-fail/FILE.edit")
+    parser.add_argument("--each", action="store_true", help="try every wrong program alone")
+    parser.add_argument("--crate", help="with --each, those of this crate alone")
     chosen = parser.parse_args()
-    if chosen.facts:
-        log = ROOT / "target" / "must-fail" / chosen.facts / ".log"
-        if not log.exists():
-            parser.error(f"there is no log {log}")
-        for fact, file in dict.fromkeys(failures(log)):
-            print(f"{fact} in {file}")
-        return 0
     problems = []
     programs = all_programs(problems)
     if chosen.write:
         before, _, after = parts_of_page(PROMISES.read_text())
         PROMISES.write_text(before + table(programs) + after)
-    check_logs(programs, problems)
+    if chosen.each:
+        check_each([p for p in programs if chosen.crate in (None, p.crate())], problems)
+    else:
+        check_log(programs, problems)
     check_promises(programs, problems)
     for problem in problems:
         print(f"must-fail: {problem}")

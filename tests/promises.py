@@ -66,6 +66,24 @@ def check_tables(page, problems):
 
 # ---- calls
 
+def brought_in(text, start):
+    """The paths that the source's lines bring in which begin so, each whole: `use a::{b, c::d};` is a::b and a::c::d."""
+    def each(tree):
+        head, brace, rest = tree.partition("{")
+        if not brace:
+            return [tree.strip()]
+        parts, depth, part = [], 0, ""
+        for sign in rest[: rest.rindex("}")]:
+            depth += (sign == "{") - (sign == "}")
+            if sign == "," and depth == 0:
+                parts, part = [*parts, part], ""
+            else:
+                part += sign
+        return [head.strip() + path for inner in [*parts, part] if inner.strip() for path in each(inner.strip())]
+
+    return [path for tree in re.findall(rf"^{start} ([^;]*);", text, re.M) for path in each(" ".join(tree.split()))]
+
+
 def shown():
     """The functions that each library shows to other crates, with whether they require something."""
     found = {}
@@ -75,7 +93,7 @@ def shown():
         for path, prefix in files:
             code = "\n".join(believe.code_of(path))
             found.update({prefix + m[1]: "requires" in m[0] for m in re.finditer(r'^pub (?:extern "C" )?fn (\w+)(?:.|\n)*?\n\{', code, re.M)})
-        for module, name in re.findall(r"^pub use (\w+)::(\w+);", text, re.M):
+        for module, name in [path.split("::") for path in brought_in(text, "pub use")]:
             found[f"{crate}::{name}"] = "requires" in believe.functions(lib.with_name(f"{module}.rt"))[name]
     return found
 
@@ -86,7 +104,7 @@ def callers(name):
     found = set()
     for path in CRATES.glob("*/src/*.rt"):
         text = path.read_text()
-        short = modules and f"use {'::'.join([crate, *modules])};" in text and re.search(rf"\b{modules[-1]}::{function}\(", text)
+        short = modules and "::".join([crate, *modules]) in brought_in(text, "use") and re.search(rf"\b{modules[-1]}::{function}\(", text)
         if path.parent.parent.name != crate and (re.search(rf"\b{name}\(", text) or short):
             found.add(path.parent.parent.name)
     return found
