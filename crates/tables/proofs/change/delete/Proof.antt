@@ -16,11 +16,11 @@ locate-requires : tie.Need-locate-spot-requires
 locate-requires c κs = search rules
 
 returns : tie.Need-returns-then-not-spot
-returns c = deletion-unfit c.args.s c.args.r (spot-fits c.args.s c.args.r c.locate-spot.ensures ∙ c.if-not-spot.true)
+returns c = deletion-unfit c.args.s c.args.r (spot-fits c.args.s c.args.r c.locate-spot.ensures ∙ not-true _ c.if-not-spot.true)
 
 -- what is known of a record that fits
 record-fit : (c : tie.Else-not-spot) → fits c.args.s.widths c.args.r ≡ true
-record-fit c = spot-fits c.args.s c.args.r c.locate-spot.ensures ∙ c.if-not-spot.false
+record-fit c = spot-fits c.args.s c.args.r c.locate-spot.ensures ∙ not-false _ c.if-not-spot.false
 
 lower-requires : tie.Need-lower-t-requires
 lower-requires c κs =
