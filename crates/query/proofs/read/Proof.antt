@@ -65,7 +65,7 @@ trees s = tree_checks (widths s) (count_of_constants (bytes s)) (nodes_of (bytes
 abbrev start : tie.In_default → tie.Start
 start c = c.before.before.before
 passed : (c : tie.In_default) → Done ≡ first_cause (header_checks (widths (start c)) (bytes (start c)))
-passed c = sym c.enum_told-1.given.1 ∙ c.before.before.header-header.ensures
+passed c = sym c.in_default.is ∙ c.header-header.ensures
 
 headed : (c : tie.In_default) → Headed (bytes (start c))
 headed c = header-done (widths (start c)) (bytes (start c)) Done (passed c) refl
@@ -83,7 +83,7 @@ abbrev nodes : tie.After-words-2 → List ℕ
 nodes c = c.words-2.new.out
 
 abbrev constants : tie.After-words-2 → List ℕ
-constants c = c.before.before.before.words.new.out
+constants c = c.words.new.out
 
 -- The nodes are judged.
 abbrev words : tie.After-tree-tree → tie.After-words-2
@@ -94,14 +94,14 @@ began c = start (told (counts (words c)))
 judged : (c : tie.After-tree-tree) → c.tree-tree.result ≡ first_cause (trees (began c))
 judged c = let w = words c in judged-nodes (fits (counts w)) (nodes w) w.words-2.ensures (widths (began c)) c.tree-tree.result c.tree-tree.ensures
 
-placed : (c : tie.In_default-tree) → Done ≡ first_cause (trees (began c.before.before))
-placed c = sym c.enum_told-in_default-tree-1.given.1 ∙ judged c.before.before
+placed : (c : tie.In_default-tree) → Done ≡ first_cause (trees (began c.before))
+placed c = sym c.in_default-tree.is ∙ judged c.before
 
 -- The columns are found.
 abbrev tree : tie.After-columns-columns → tie.After-tree-tree
-tree c = c.before.before.before.before
+tree c = c.before.before.before
 found : (c : tie.After-columns-columns) → c.columns-columns.result ≡ columns_found (columns (root (nodes_of (bytes (began (tree c))))))
-found c = let w = words (tree c) in found-columns (fits (counts w)) (nodes w) w.words2.ensures c.columns-columns.result c.columns-columns.ensures
+found c = let w = words (tree c) in found-columns (fits (counts w)) (nodes w) w.words-2.ensures c.columns-columns.result c.columns-columns.ensures
 
 count : (c : tie.After-columns-columns) → c.columns-columns.result.count ≡ length (columns (root (nodes_of (bytes (began (tree c))))))
 count c = ap (λ (xs : Columns). xs.count) (found c)
@@ -119,8 +119,8 @@ refused-requires c κs = search rules
 
 returns : tie.Need-returns-in-Refused
 returns c =
-    let h = c.before.before.before.before in let s = h.before.before in
-    c.refused.ensures ∙ refused-header (widths s) (bytes s) h.header-header.result h.header-header.ensures c.before.before.header-1.given.1
+    let h = c.before.before in let s = h.before.before in
+    c.refused.ensures ∙ refused-header (widths s) (bytes s) h.header-header.result h.header-header.ensures c.in-Refused.is
 
 enum_told : tie.Need-enum_told-1
 enum_told c = search rules
@@ -160,14 +160,14 @@ refused-requires-2 c κs = search rules
 
 returns-2 : tie.Need-returns-in-Refused-tree
 returns-2 c =
-    let t = c.before.before.before.before in let s = began t in
-    c.refused-in-Refused-tree.ensures ∙ refused-tree (widths s) (bytes s) (passed (told (counts (words t)))) t.tree-tree.result (judged t) c.before.before.tree-1.given.1
+    let t = c.before.before in let s = began t in
+    c.refused-in-Refused-tree.ensures ∙ refused-tree (widths s) (bytes s) (passed (told (counts (words t)))) t.tree-tree.result (judged t) c.in-Refused-tree.is
 
 enum-told-2 : tie.Need-enum_told-in_default-tree
 enum-told-2 c = search rules
 
 columns-requires : tie.Need-columns-columns-requires
-columns-requires c κs = let f = fits c.before.before.before.before.before.before.before.before.before.before.before.before in (f.some_nodes, f.few_nodes)
+columns-requires c κs = let f = fits c.before.before.before.before.before.before.before.before.before.before.before in (f.some_nodes, f.few_nodes)
 
 refused-requires-3 : tie.Need-refused-requires-then-width-gt-COLUMNS
 refused-requires-3 c κs = search rules
@@ -183,8 +183,8 @@ returns-4 c =
     let t = c.before in let s = began (tree t) in let w = words (tree t) in let f = fits (counts w) in
     let few : length (columns (root (nodes_of (bytes s)))) ≤ 4 = subst (λ (k : ℕ). k ≤ 4) (count t) c.if-width-gt-COLUMNS.false in
     assembled f (constants w) (nodes w) t.columns-columns.result
-    (constants-padded f (constants w) w.before.before.before.words.ensures)
-    (nodes-padded f (nodes w) w.words2.ensures)
+    (constants-padded f (constants w) w.words.ensures)
+    (nodes-padded f (nodes w) w.words-2.ensures)
     (found t ∙ few_columns (columns (root (nodes_of (bytes s)))) few)
     ∙ reply-accepted (widths s) (bytes s) (passed (told (counts w))) (placed t.before.before) few
 

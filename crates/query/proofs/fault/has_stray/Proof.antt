@@ -56,7 +56,7 @@ returns-2 c =
 returns-3 : tie.Need-returns-in_default
 returns-3 c =
     let f = c.before.before in let n = f.fields-f.ensures in
-    rw (terms-none f.before.args.w (kind-not-read n c.in_default.rest.0.1) (kind-not-read n c.in_default.rest.1))
+    rw (terms-none f.before.args.w (kind-not-read n c.in_default.in_default-own.rest.0.1) (kind-not-read n c.in_default.in_default-own.rest.1))
 
 pub has_stray_spec : {M : Type 1} → statement M
 has_stray_spec =

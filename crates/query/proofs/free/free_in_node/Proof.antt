@@ -74,15 +74,15 @@ returns-3 c =
 
 returns-4 : tie.Need-returns-in-3
 returns-4 c =
-    let f = c.before.before.before in let s = f.before in
-    rw (read f) (sym (free-of-kind s.before.args.x s.before.args.w (child s) 3 (kind-read f.before.fields-f.ensures c.before.before.in-3.is)))
+    let f = c.before.before.before.before in let s = f.before in
+    rw (read f) (sym (free-of-kind s.args.x s.args.w (child s) 3 (kind-read f.fields-f.ensures c.in-3.is)))
 
 returns-5 : tie.Need-returns-then-x-variable-2
 returns-5 c =
-    let f = c.before.before.before.before in let s = f.before in let x = s.before.args.x in let w = s.before.args.w in
+    let f = c.before.before.before.before.before in let s = f.before in let x = s.args.x in let w = s.args.w in
     rw (read f)
-    (and-left-to (not (eqb x (variable w))) (child s (under w)) (ap not (ne_eqb x (variable w) (rw (read f) at c.before.before.if-x-variable-2.true)))
-    ∙ sym (free-of-kind x w (child s) 6 (kind-read f.before.fields-f.ensures c.before.before.before.in-6.is)))
+    (and-left-to (not (eqb x (variable w))) (child s (under w)) (ap not (ne_eqb x (variable w) (rw (read f) at c.if-x-variable-2.true)))
+    ∙ sym (free-of-kind x w (child s) 6 (kind-read f.fields-f.ensures c.in-6.is)))
 
 returns-6 : tie.Need-returns-else-x-variable-2
 returns-6 c =
@@ -92,32 +92,32 @@ returns-6 c =
     ∙ sym (free-of-kind x w (child s) 6 (kind-read f.fields-f.ensures c.before.in-6.is)))
 
 -- An and or an or.
-two : (c : tie.In-4) → let f = c.before.before.before in (4 ≤ kind f.before.args.w) × (kind f.before.args.w ≤ 5)
-two c = kind-two-read c.before.before.before.before.fields-f.ensures (omega arith) (omega arith)
+two : (c : tie.In-4) → (4 ≤ kind c.args.w) × (kind c.args.w ≤ 5)
+two c = kind-two-read c.fields-f.ensures (omega arith) (omega arith)
 
 returns-7 : tie.Need-returns-then-before-left
 returns-7 c =
-    let d = c.before.before in let f = d.before.before.before.before in let s = f.before in let w = s.before.args.w in
+    let d = c.before.before.before in let f = d.before.before in let s = f.before in let w = s.args.w in
     rw (read f)
     (or-settled (child s (left w)) (child s (right w)) (rw (read f) at c.if-before-left.true)
-    ∙ sym (free-of-both s.before.args.x w (child s) (two d).0 (two d).1))
+    ∙ sym (free-of-both s.args.x w (child s) (two d).0 (two d).1))
 
 returns-8 : tie.Need-returns-else-before-left
 returns-8 c =
-    let d = c.before.before.before in let f = d.before.before.before.before in let s = f.before in let w = s.before.args.w in
+    let d = c.before.before.before.before in let f = d.before.before in let s = f.before in let w = s.args.w in
     rw (read f)
-    (or-left-to (child s (left w)) (child s (right w)) (rw (read f) at c.before.if-before-left.false)
-    ∙ sym (free-of-both s.before.args.x w (child s) (two d).0 (two d).1))
+    (or-left-to (child s (left w)) (child s (right w)) (rw (read f) at c.if-before-left.false)
+    ∙ sym (free-of-both s.args.x w (child s) (two d).0 (two d).1))
 
 returns-9 : tie.Need-returns-in_default
 returns-9 c =
-    let f = c.before.before.before in let s = f.before in let r = c.before.in_default-1.rest in
-    sym (free-of-none s.args.x s.args.w (child s) (inl (omega (arith, ap (λ f. f.kind) (read f), c.if-kind-lt1.true, r.0.0.0.1, r.0.0.1, r.0.1))))
+    let f = c.before.before in let s = f.before in let r = c.in_default.in_default-own.rest in
+    sym (free-of-none s.args.x s.args.w (child s) (inl (omega (arith, ap (λ f. f.kind) (read f), c.in_default.if-kind-lt1-own.true, r.0.0.0.1, r.0.0.1, r.0.1))))
 
 returns-10 : tie.Need-returns-in_default-2
 returns-10 c =
-    let f = c.before.before.before in let s = f.before in
-    sym (free-of-none s.args.x s.args.w (child s) (inr (omega (arith, ap (λ f. f.kind) (read f), c.if-kind-lt6.false, c.before.before.in_default-1.rest.1))))
+    let f = c.before.before in let s = f.before in
+    sym (free-of-none s.args.x s.args.w (child s) (inr (omega (arith, ap (λ f. f.kind) (read f), c.in_default.if-kind-lt6-own.false, c.in_default.in_default-own.rest.1))))
 
 pub free_in_node_spec : {M : Type 1} → statement M
 free_in_node_spec =

@@ -99,34 +99,34 @@ returns-2 c =
 
 returns-3 : tie.Need-returns-in-3
 returns-3 c =
-    let f = c.before.before.before in let s = f.before in
-    rw (read f) (sym (set-of-not s.before.args.w (child s) (kind-read f.before.fields-f.ensures c.before.before.in-3.is)))
+    let f = c.before.before.before.before in let s = f.before in
+    rw (read f) (sym (set-of-not s.args.w (child s) (kind-read f.fields-f.ensures c.in-3.is)))
 
 returns-4 : tie.Need-returns-in-6
 returns-4 c =
-    let f = c.before.before.before.before in let s = f.before in
-    (λ i. bit_xor (bit_or (child s f.before.fields-f.result.under) (c.before.before.term_bit-bound.ensures i)) (c.before.before.term_bit-bound.ensures i))
+    let f = c.before.before.before.before.before in let s = f.before in
+    (λ i. bit_xor (bit_or (child s f.fields-f.result.under) (c.term_bit-bound.ensures i)) (c.term_bit-bound.ensures i))
     ∙ ap (λ g. without g.variable (child s g.under)) (read f)
-    ∙ sym (set-of-exists s.before.args.w (child s) (kind-read f.before.fields-f.ensures c.before.before.before.in-6.is))
+    ∙ sym (set-of-exists s.args.w (child s) (kind-read f.fields-f.ensures c.in-6.is))
 
 -- An and or an or.
-two : (c : tie.In-4) → let f = c.before.before.before in (4 ≤ kind f.before.args.w) × (kind f.before.args.w ≤ 5)
-two c = kind-two-read c.before.before.before.before.fields-f.ensures (omega arith) (omega arith)
+two : (c : tie.In-4) → (4 ≤ kind c.args.w) × (kind c.args.w ≤ 5)
+two c = kind-two-read c.fields-f.ensures (omega arith) (omega arith)
 
 returns-5 : tie.Need-returns-in-4
 returns-5 c =
-    let d = c.before.before in let f = d.before.before.before.before in let s = f.before in
-    rw (read f) (sym (set-of-both s.before.args.w (child s) (two d).0 (two d).1))
+    let d = c.before.before.before in let f = d.before.before in let s = f.before in
+    rw (read f) (sym (set-of-both s.args.w (child s) (two d).0 (two d).1))
 
 returns-6 : tie.Need-returns-in_default
 returns-6 c =
-    let f = c.before.before.before in let s = f.before in let r = c.before.in_default-1.rest in
-    sym (set-of-none s.args.w (child s) (inl (omega (arith, ap (λ f. f.kind) (read f), c.if-kind-lt1.true, r.0.0.0.1, r.0.0.1, r.0.1))))
+    let f = c.before.before in let s = f.before in let r = c.in_default.in_default-own.rest in
+    sym (set-of-none s.args.w (child s) (inl (omega (arith, ap (λ f. f.kind) (read f), c.in_default.if-kind-lt1-own.true, r.0.0.0.1, r.0.0.1, r.0.1))))
 
 returns-7 : tie.Need-returns-in_default-2
 returns-7 c =
-    let f = c.before.before.before in let s = f.before in
-    sym (set-of-none s.args.w (child s) (inr (omega (arith, ap (λ f. f.kind) (read f), c.if-kind-lt6.false, c.before.before.in_default-1.rest.1))))
+    let f = c.before.before in let s = f.before in
+    sym (set-of-none s.args.w (child s) (inr (omega (arith, ap (λ f. f.kind) (read f), c.in_default.if-kind-lt6-own.false, c.in_default.in_default-own.rest.1))))
 
 pub set_in_node_spec : {M : Type 1} → statement M
 set_in_node_spec =

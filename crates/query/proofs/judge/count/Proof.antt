@@ -51,12 +51,12 @@ bump-requires-2 c κs =
 
 bump-requires-3 : tie.Need-bump-requires-in-4
 bump-requires-3 c κs =
-    let f = c.before.before.before.before in let s = f.before.before in
+    let f = c.before.before in let s = f.before.before.before in
     room s.args.counts.now f.fields-f.result.left f.fields-f.ensures.left_fits s.requires
 
 bump-requires-4 : tie.Need-bump-requires-in-4-2
 bump-requires-4 c κs =
-    let f = c.before.before.before.before.before.before in let s = f.before.before in
+    let f = c.before.before.before.before in let s = f.before.before.before in
     room-2 s.args.counts.now c.before.bump-in-4.new.counts f.fields-f.result.left f.fields-f.result.right (places f) f.fields-f.ensures.left_fits f.fields-f.ensures.right_fits c.before.bump-in-4.ensures s.requires
 
 returns : tie.Need-returns-in-3
@@ -76,7 +76,7 @@ returns-3 c =
 
 returns-4 : tie.Need-returns-in-4
 returns-4 c =
-    let d = c.before.before.before.before in let f = d.before.before.before in let s = f.before.before in
+    let d = c.before.before.before.before in let f = d.before in let s = f.before.before.before in
     both s.args.counts.now c.before.before.bump-in-4.new.counts c.bump-in-4-2.new.counts f.fields-f.result.left f.fields-f.result.right c.before.before.bump-in-4.ensures c.bump-in-4-2.ensures
     ∙ counted-two s.args.counts.now (places f) s.args.w f.fields-f.result.left f.fields-f.result.right f.fields-f.ensures.left_fits f.fields-f.ensures.right_fits
     (children-two-read f.fields-f.ensures (omega (arith, d)) (omega (arith, d)))

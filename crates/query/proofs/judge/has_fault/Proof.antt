@@ -94,7 +94,7 @@ returns-6 c =
 
 returns-7 : tie.Need-returns-in_default
 returns-7 c =
-    let x = c.before.before.before.args in let ns = take x.n x.nodes.now in let r = c.in_default.rest in
+    let x = c.before.before.before.args in let ns = take x.n x.nodes.now in let r = c.in_default.in_default-own.rest in
     past-nine x.cause (malformed (get_or ns x.i 0)) (misplaced ns x.i) (strays x.constants (get_or ns x.i 0)) (mismatched x.widths.now (get_or ns x.i 0)) (omega arith) r.0.0.0.1 r.0.0.1 r.0.1 r.1
 
 pub has_fault_spec : {M : Type 1} → statement M

@@ -1,6 +1,5 @@
 -- `query::judge::header` meets its contract: each return is at one of the contract's tests.
 use borrow.Author.Rules.{rules}
-use borrow.Author.Tests.{not-false}
 use mathlib.Core.Path.{◌≡◌, sym, ◌∙◌}
 use mathlib.Core.Bool.{true}
 use Rattle.causes.specs.Causes.{widths_fit}
@@ -11,7 +10,7 @@ use Rattle.query.proofs.judge.header.Tie as tie
 -- ---- what is known at a place
 
 fitting : (c : tie.Else-not-widths_are_right) → widths_fit c.before.before.before.args.widths ≡ true
-fitting c = sym c.before.widths_are_right.ensures ∙ not-false c.before.widths_are_right.result c.if-not-widths_are_right.false
+fitting c = sym c.before.widths_are_right.ensures ∙ c.if-not-widths_are_right.false
 
 counted : (c : tie.After-constant_count-k) → Counted c.before.before.before.before.before.before.before.before.args.widths c.before.before.before.before.before.before.before.before.args.bytes.now c.before.node_count-n.result c.constant_count-k.result
 counted c = record { widths = fitting c.before.before.before.before.before; long = c.before.before.before.before.if-length-lt2.false; first = c.before.before.if-bytes-ne1.false; nodes = c.before.node_count-n.ensures; constants = c.constant_count-k.ensures }

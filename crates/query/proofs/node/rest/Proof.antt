@@ -21,10 +21,10 @@ returns-5 : tie.Need-returns-in-6
 returns-5 c = rw c.in-6.is
 
 returns-6 : tie.Need-returns-in-4
-returns-6 c = sym (rest-two c.before.args.w (omega (arith, c.before.in_default-1.rest)) (omega arith))
+returns-6 c = sym (rest-two c.args.w (omega (arith, c.in-4.in_default-own.rest)) (omega arith))
 
 returns-7 : tie.Need-returns-in_default
-returns-7 c = sym (rest-none c.before.args.w c.if-kind-lt6.false c.before.in_default-1.rest.1)
+returns-7 c = sym (rest-none c.args.w c.in_default.if-kind-lt6-own.false c.in_default.in_default-own.rest.1)
 
 pub rest_spec : {M : Type 1} → statement M
 rest_spec = tie.close (tie.spec returns returns-2 returns-3 returns-4 returns-5 returns-6 returns-7)

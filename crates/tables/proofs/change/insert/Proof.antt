@@ -17,18 +17,18 @@ locate-requires : tie.Need-locate-spot-requires
 locate-requires c κs = search rules
 
 returns : tie.Need-returns-then-not-spot
-returns c = insertion-unfit c.before.before.before.args.s c.before.before.before.args.r (spot-fits c.before.before.before.args.s c.before.before.before.args.r c.before.before.locate-spot.ensures ∙ c.if-not-spot.true)
+returns c = insertion-unfit c.args.s c.args.r (spot-fits c.args.s c.args.r c.locate-spot.ensures ∙ not-true _ c.if-not-spot.true)
 
 -- what is known of a record that fits
-record-fit : (c : tie.Else-not-spot) → fits c.before.before.before.args.s.widths c.before.before.before.args.r ≡ true
-record-fit c = spot-fits c.before.before.before.args.s c.before.before.before.args.r c.before.before.locate-spot.ensures ∙ c.if-not-spot.false
+record-fit : (c : tie.Else-not-spot) → fits c.args.s.widths c.args.r ≡ true
+record-fit c = spot-fits c.args.s c.args.r c.locate-spot.ensures ∙ not-false _ c.if-not-spot.false
 
 returns-2 : tie.Need-returns-then-spot
-returns-2 c = insertion-held c.before.before.before.before.args.s c.before.before.before.before.args.r (record-fit c.before) (spot-held c.before.before.before.before.args.s c.before.before.before.before.args.r c.before.before.before.locate-spot.ensures ∙ c.if-spot.true)
+returns-2 c = insertion-held c.args.s c.args.r (record-fit c.before) (spot-held c.args.s c.args.r c.locate-spot.ensures ∙ c.if-spot.true)
 
 -- and of one that is not held
-absent : (c : tie.Else-spot) → found c.before.before.before.before.args.r (held c.before.before.before.before.args.s) ≡ false
-absent c = spot-held c.before.before.before.before.args.s c.before.before.before.before.args.r c.before.before.before.locate-spot.ensures ∙ c.if-spot.false
+absent : (c : tie.Else-spot) → found c.args.r (held c.args.s) ≡ false
+absent c = spot-held c.args.s c.args.r c.locate-spot.ensures ∙ c.if-spot.false
 
 returns-3 : tie.Need-returns-then-count-ge-PLACES
 returns-3 c =
@@ -38,12 +38,12 @@ returns-3 c =
 raise-requires : tie.Need-raise-t-requires
 raise-requires c κs =
     let e = c.before.before.before.before.before in
-    (omega (arith, spot-place e.args.s e.args.r c.before.before.before.before.locate-spot.ensures, rank-le e.args.r (held e.args.s), length-held e.args.s e.requires), e.requires)
+    (omega (arith, spot-place e.args.s e.args.r c.locate-spot.ensures, rank-le e.args.r (held e.args.s), length-held e.args.s e.requires), e.requires)
 
 returns-4 : tie.Need-returns
 returns-4 c =
-    let e = c.before.before.before.before.before.before in let a = e.args in let spot = c.before.before.before.before.before.locate-spot in
-    insertion-done a.s a.r (record-fit c.before.before.before) (absent c.before.before) (count_room a.s a.r e.requires c.before.if-count-ge-PLACES.false) spot.result.place c.raise-t.result (sym (spot-place a.s a.r spot.ensures)) c.raise-t.ensures
+    let e = c.before.before.before.before.before.before in let a = e.args in let spot = c.locate-spot in
+    insertion-done a.s a.r (record-fit c.before.before.before) (absent c.before.before) (count_room a.s a.r e.requires c.if-count-ge-PLACES.false) spot.result.place c.raise-t.result (sym (spot-place a.s a.r spot.ensures)) c.raise-t.ensures
 
 pub insert_spec : {M : Type 1} → statement M
 insert_spec = tie.close (tie.spec locate-requires returns returns-2 returns-3 raise-requires returns-4)

@@ -10,8 +10,8 @@ use Rattle.tables.proofs.change.put.Statement.{statement}
 use Rattle.tables.proofs.change.put.Tie as tie
 
 -- what is known where the store was not refused
-judged-done : (c : tie.In-Done) → judgement c.before.before.args.s ≡ Done
-judged-done c = sym c.before.before.judge-judged.ensures ∙ c.enum_told-1.given.1
+judged-done : (c : tie.In-Done) → judgement c.args.s ≡ Done
+judged-done c = sym c.judge-judged.ensures ∙ c.in-Done.is
 
 judge-requires : tie.Need-judge-judged-requires
 judge-requires c κs = search rules
@@ -24,17 +24,17 @@ enum_told c = search rules
 
 insert-requires : tie.Need-insert-requires
 insert-requires c κs =
-    let s = c.before.before.args.s in
+    let s = c.args.s in
     (reflected (reflects-layout s) (judged-layout s (judged-done c)).1).count_fits
 
 returns : tie.Need-returns-in-Refused
 returns c =
-    let a = c.before.before.before.args in let was = c.before.judged-1.given in
-    sym (put-judged a.s a.r was.0.0 was.0.1.0 (sym c.before.before.before.judge-judged.ensures ∙ was.1))
+    let a = c.args in let was = c.in-Refused in
+    sym (put-judged a.s a.r was.number was.at (sym c.judge-judged.ensures ∙ was.is))
 
 returns-2 : tie.Need-returns-in-Done
 returns-2 c =
-    let a = c.before.before.before.args in let l = judged-layout a.s (judged-done c.before) in
+    let a = c.args in let l = judged-layout a.s (judged-done c.before) in
     c.insert.ensures ∙ insertion-put a.s a.r l.0 l.1
 
 pub put_spec : {M : Type 1} → statement M

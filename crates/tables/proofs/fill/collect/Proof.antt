@@ -15,8 +15,8 @@ enum_told c = search rules
 
 returns : tie.Need-returns-in-Refused
 returns c =
-    let s = c.before.before in let was = c.enum_told-1.given in
-    collected-refused s.args.f (offered s) was.0.0 was.0.1.0 was.1
+    let s = c.before.before in let was = c.in-Refused in
+    collected-refused s.args.f (offered s) was.field-0 was.field-1 was.is
 
 enum-told-2 : tie.Need-enum_told-in_default
 enum-told-2 c = search rules
@@ -26,8 +26,8 @@ none-requires c κs = search rules
 
 returns-2 : tie.Need-returns-then-count-gt-PLACES
 returns-2 c =
-    let s = c.before.before.before.before in let e = c.before in
-    collected-over s.args.f (offered s) e.before.enum_told-in_default-1.given.1 e.if-count-gt-PLACES.true c.none.result c.none.ensures
+    let s = c.before.before.before.before in
+    collected-over s.args.f (offered s) c.in_default.is c.if-count-gt-PLACES.true c.none.result c.none.ensures
 
 insert-requires : tie.Need-insert-added-requires
 insert-requires c κs = c.if-count-gt-PLACES.false
@@ -40,31 +40,31 @@ enum-known-reply c = search rules
 
 returns-3 : tie.Need-returns-then-number-eq14
 returns-3 c =
-    let s = c.before.before.before.before.before.before.before.before in let e = c.before.before.before.before.before in let put = c.before.before.before.before.insert-added in let reply = c.before.before.reply-1.given in
-    collected-repeat s.args.f (offered s) e.before.enum_told-in_default-1.given.1 e.if-count-gt-PLACES.false put.result put.ensures reply.0.0 reply.0.1.0 reply.1 c.if-number-eq14.true
+    let s = c.before.before.before.before.before.before in let put = c.insert-added in let reply = c.in-Refused-reply in
+    collected-repeat s.args.f (offered s) c.in_default.is c.if-count-gt-PLACES.false put.result put.ensures reply.number reply.field-1 reply.is c.if-number-eq14.true
 
 none-requires-2 : tie.Need-none-requires-in-Refused-reply
 none-requires-2 c κs = search rules
 
 returns-4 : tie.Need-returns-in-Done
 returns-4 c =
-    let s = c.before.before.before.before.before.before in let e = c.before.before.before in let put = c.before.before.insert-added in
-    collected-put s.args.f (offered s) e.before.enum_told-in_default-1.given.1 e.if-count-gt-PLACES.false put.result put.ensures c.enum_told-in-Done-1.given.1
+    let s = c.before.before.before.before.before in let put = c.insert-added in
+    collected-put s.args.f (offered s) c.in_default.is c.if-count-gt-PLACES.false put.result put.ensures c.in-Done.is
 
 returns-5 : tie.Need-returns-else-number-eq14
 returns-5 c =
-    let s = c.before.before.before.before.before.before.before.before.before in let e = c.before.before.before.before.before.before in let put = c.before.before.before.before.before.insert-added in let reply = c.before.before.before.reply-1.given in
+    let s = c.before.before.before.before.before.before.before in let put = c.insert-added in let reply = c.in-Refused-reply in
     collected-ended
     s.args.f
     (offered s)
-    e.before.enum_told-in_default-1.given.1
-    e.if-count-gt-PLACES.false
+    c.in_default.is
+    c.if-count-gt-PLACES.false
     put.result
     put.ensures
-    reply.0.0
-    reply.0.1.0
-    reply.1
-    c.before.if-number-eq14.false
+    reply.number
+    reply.field-1
+    reply.is
+    c.if-number-eq14.false
     c.none-in-Refused-reply.result
     c.none-in-Refused-reply.ensures
 

@@ -64,21 +64,20 @@ add-least : tie.Need-overflow_add-least invariant-loop decreases-loop
 add-least c = search rules
 
 element-copy-out-run-end : tie.Need-bounds-widths-relation invariant-loop decreases-loop
-element-copy-out-run-end c = (fits-relation c.before.before.before.before.before.before.before.before.args.widths.now c.before.before.before.before.before.read-r.result (first_fits c)).0
+element-copy-out-run-end c = (fits-relation c.args.widths.now c.read-r.result (first_fits c.before)).0
 
 run-end-requires : tie.Need-run_end-i-requires invariant-loop decreases-loop
 run-end-requires c κs =
-    let s = c.before.before.before.before.before.before.before.before in
-    ((fits-relation s.before.args.widths.now c.before.before.before.before.before.before.read-r.result (first_fits c.before.before)).1, omega arith, s.before.requires)
+    ((fits-relation c.args.widths.now c.read-r.result (first_fits c.before.before)).1, omega arith, c.requires)
 
 loop-less : tie.Need-loop-i-smaller invariant-loop decreases-loop
 loop-less c = omega (arith, c.run_end-i.ensures.further)
 
 loop-again : tie.Need-loop-i-preserved invariant-loop decreases-loop
 loop-again c =
-    let l = c.before.before.before.before.before.before.before.before in let s = l.before in (
+    let l = c.before.before.before.before.before.before.before.before in let s = l.before.before in (
       c.run_end-i.ensures.ends,
-      entered-next s.before.args.widths.now (records s) s.before.args.count (at s) (size s) (placed s) l.before.loop-i.invariant.1 (omega arith) c.before.before.before.before.before.before.before.read-r.ensures (omega arith) (first_fits c.before.before.before) c.run_end-i.ensures,
+      entered-next s.args.widths.now (records s) s.args.count (at s) (size s) (placed s) l.loop-i.invariant.1 (omega arith) c.read-r.ensures (omega arith) (first_fits c.before.before.before) c.run_end-i.ensures,
     )
 
 returns-3 : tie.Need-returns invariant-loop decreases-loop

@@ -46,7 +46,7 @@ is-orderly-requires c κs = search rules
 returns-3 : tie.Need-returns-then-not-is_orderly
 returns-3 c =
     let e = counted c.before in
-    judged-disordered (store e.before) (widths_right e.before) e.if-count-gt-PLACES.left (sym c.before.is_orderly.ensures ∙ c.if-not-is_orderly.true)
+    judged-disordered (store e.before) (widths_right e.before) e.if-count-gt-PLACES.false (sym c.before.is_orderly.ensures ∙ c.if-not-is_orderly.true)
 
 rest-blank-requires : tie.Need-rest_blank-requires
 rest-blank-requires c κs = search rules
@@ -54,12 +54,12 @@ rest-blank-requires c κs = search rules
 returns-4 : tie.Need-returns-then-not-rest_blank
 returns-4 c =
     let o = ordered c.before in let e = counted o.before in
-    judged-full (store e.before) (widths_right e.before) e.if-count-gt-PLACES.left (in_order o) (sym c.before.rest_blank.ensures ∙ c.if-not-rest_blank.true)
+    judged-full (store e.before) (widths_right e.before) e.if-count-gt-PLACES.false (in_order o) (sym c.before.rest_blank.ensures ∙ c.if-not-rest_blank.true)
 
 returns-5 : tie.Need-returns
 returns-5 c =
     let o = ordered c.before in let e = counted o.before in
-    judged-done (store e.before) (widths_right e.before) e.if-count-gt-PLACES.left (in_order o) (sym c.before.rest_blank.ensures ∙ c.if-not-rest_blank.false)
+    judged-done (store e.before) (widths_right e.before) e.if-count-gt-PLACES.false (in_order o) (sym c.before.rest_blank.ensures ∙ c.if-not-rest_blank.false)
 
 pub judge_spec : {M : Type 1} → statement M
 judge_spec =
