@@ -8,9 +8,6 @@ use Rattle.rules.specs.Reply.Laws.{reply-short, reply-refuses, reply-reads}
 use Rattle.rules.proofs.read.Statement.{statement}
 use Rattle.rules.proofs.read.Tie as tie
 
-places : (c : tie.After-pack-p) → length c.pack-p.result.bytes ≡ 322
-places c = search rules
-
 pack-requires : tie.Need-pack-p-requires
 pack-requires c κs = search rules
 
@@ -22,24 +19,25 @@ refused-requires c κs = search rules
 
 returns : tie.Need-returns-in-Refused
 returns c =
-    let t = c.before.before in let p = t.before.before in let a = p.before.before.args in
-    reply-refuses a.text.now p.pack-p.result p.pack-p.ensures a.widths _ _ t.answer-1.given.1 c.refused.result c.refused.ensures
+    let a = c.args in
+    reply-refuses a.text.now c.pack-p.result c.pack-p.ensures a.widths _ _ c.in-Refused.is c.refused.result c.refused.ensures
 
 enum_told : tie.Need-enum_told-1
 enum_told c = search rules
 
 slice-aggregate-read : tie.Need-slice_bounds-read-end
 slice-aggregate-read c =
-    let p = c.before.before.before.before.before.before in let r = p.pack.result in
-    sym (length-take-le r.size r.bytes (omega (arith, places p, reply-short p.before.args.text.now r p.pack.ensures)))
+    let r = c.pack-p.result in
+    let l : length r.bytes ≡ 322 = search rules in
+    sym (length-take-le r.size r.bytes (omega (arith, l, reply-short c.args.text.now r c.pack-p.ensures)))
 
 read-requires : tie.Need-read-requires
 read-requires c κs = search rules
 
 returns-2 : tie.Need-returns
 returns-2 c =
-    let t = c.before.before.before.before.before in let p = t.before.before in let a = p.before.args in
-    reply-reads a.text.now p.pack.result p.pack.ensures a.widths t.enum_told.given.1 c.read.result c.read.ensures
+    let a = c.args in
+    reply-reads a.text.now c.pack-p.result c.pack-p.ensures a.widths c.in_default.is c.read.result c.read.ensures
 
 pub read_spec : {M : Type 1} → statement M
 read_spec = tie.close (tie.spec pack-requires enum-known-answer refused-requires returns enum_told slice-aggregate-read read-requires returns-2)

@@ -54,8 +54,8 @@ some-of-requires c κs = search rules
 
 returns : tie.Need-returns
 returns c =
-    let s = c.before.before.before.before.before.before.before in let a = s.before.args in
-    c.some_of.ensures ∙ four-tested (λ x. not (get_or a.seen.now x false)) a.h.count a.h.variables (places s)
+    let a = c.args in
+    c.some_of.ensures ∙ four-tested (λ x. not (get_or a.seen.now x false)) a.h.count a.h.variables (search rules)
 
 pub is_missing_spec : {M : Type 1} → statement M
 is_missing_spec =

@@ -99,91 +99,91 @@ enum-told-22 c = search rules
 
 -- src/mode.rt:148:1
 returns : tie.Need-returns-in-Out
-returns c = rw c.enum_told-1.given.1
+returns c = rw c.in-Out.is
 
 -- src/mode.rt:148:1
 returns-2 : tie.Need-returns-in-Start
-returns-2 c = rw c.enum_told-in-Start-1.given.1
+returns-2 c = rw c.in-Start.is
 
 -- src/mode.rt:148:1
 returns-3 : tie.Need-returns-in-Letter
-returns-3 c = rw c.enum_told-in-Letter-1.given.1
+returns-3 c = rw c.in-Letter.is
 
 -- src/mode.rt:148:1
 returns-4 : tie.Need-returns-in-ColumnDue
-returns-4 c = rw c.enum_told-in-ColumnDue-1.given.1
+returns-4 c = rw c.in-ColumnDue.is
 
 -- src/mode.rt:148:1
 returns-5 : tie.Need-returns-in-Column
-returns-5 c = rw c.enum_told-in-Column-1.given.1
+returns-5 c = rw c.in-Column.is
 
 -- src/mode.rt:148:1
 returns-6 : tie.Need-returns-in-Closed
-returns-6 c = rw c.enum_told-in-Closed-1.given.1
+returns-6 c = rw c.in-Closed.is
 
 -- src/mode.rt:148:1
 returns-7 : tie.Need-returns-in-Colon
-returns-7 c = rw c.enum_told-in-Colon-1.given.1
+returns-7 c = rw c.in-Colon.is
 
 -- src/mode.rt:148:1
 returns-8 : tie.Need-returns-in-GoalDue
-returns-8 c = rw c.enum_told-in-GoalDue-1.given.1
+returns-8 c = rw c.in-GoalDue.is
 
 -- src/mode.rt:148:1
 returns-9 : tie.Need-returns-in-DenialN
-returns-9 c = rw c.enum_told-in-DenialN-1.given.1
+returns-9 c = rw c.in-DenialN.is
 
 -- src/mode.rt:148:1
 returns-10 : tie.Need-returns-in-DenialNo
-returns-10 c = rw c.enum_told-in-DenialNo-1.given.1
+returns-10 c = rw c.in-DenialNo.is
 
 -- src/mode.rt:148:1
 returns-11 : tie.Need-returns-in-DenialNot
-returns-11 c = rw c.enum_told-in-DenialNot-1.given.1
+returns-11 c = rw c.in-DenialNot.is
 
 -- src/mode.rt:148:1
 returns-12 : tie.Need-returns-in-Denial
-returns-12 c = rw c.enum_told-in-Denial-1.given.1
+returns-12 c = rw c.in-Denial.is
 
 -- src/mode.rt:148:1
 returns-13 : tie.Need-returns-in-Relation
-returns-13 c = rw c.enum_told-in-Relation-1.given.1
+returns-13 c = rw c.in-Relation.is
 
 -- src/mode.rt:148:1
 returns-14 : tie.Need-returns-in-TermDue
-returns-14 c = rw c.enum_told-in-TermDue-1.given.1
+returns-14 c = rw c.in-TermDue.is
 
 -- src/mode.rt:148:1
 returns-15 : tie.Need-returns-in-Term
-returns-15 c = rw c.before.enum_told-in-Term-1.given.1 c.term_effect.ensures
+returns-15 c = rw c.in-Term.is c.term_effect.ensures
 
 -- src/mode.rt:148:1
 returns-16 : tie.Need-returns-in-Ended
-returns-16 c = rw c.enum_told-in-Ended-1.given.1
+returns-16 c = rw c.in-Ended.is
 
 -- src/mode.rt:148:1
 returns-17 : tie.Need-returns-in-Subject
-returns-17 c = rw c.enum_told-in-Subject-1.given.1
+returns-17 c = rw c.in-Subject.is
 
 -- src/mode.rt:148:1
 returns-18 : tie.Need-returns-in-Spaced
-returns-18 c = rw c.enum_told-in-Spaced-1.given.1
+returns-18 c = rw c.in-Spaced.is
 
 -- src/mode.rt:148:1
 returns-19 : tie.Need-returns-in-Equals
-returns-19 c = rw c.enum_told-in-Equals-1.given.1
+returns-19 c = rw c.in-Equals.is
 
 -- src/mode.rt:148:1
 returns-20 : tie.Need-returns-in-OtherDue
-returns-20 c = rw c.enum_told-in-OtherDue-1.given.1
+returns-20 c = rw c.in-OtherDue.is
 
 -- src/mode.rt:148:1
 returns-21 : tie.Need-returns-in-Other
-returns-21 c = rw c.enum_told-in-Other-1.given.1
+returns-21 c = rw c.in-Other.is
 
 -- src/mode.rt:148:1
 returns-22 : tie.Need-returns-in-Done
-returns-22 c = rw c.enum_told-in-Done-1.given.1
+returns-22 c = rw c.in-Done.is
 
 pub effect_spec : {M : Type 1} → statement M
 effect_spec =

@@ -16,7 +16,7 @@ returns-3 c = rw c.in-4.is
 
 returns-4 : tie.Need-returns-in_default
 returns-4 c =
-    let r = c.in_default.rest in let a = c.before.args in
+    let r = c.in_default.in_default-own.rest in let a = c.before.args in
     sym (suits-other a.effect a.started (λ e. omega arith) (λ e. omega arith) (λ e. omega arith))
 
 pub suits_spec : {M : Type 1} → statement M

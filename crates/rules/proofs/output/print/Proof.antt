@@ -28,14 +28,14 @@ taken c = length-take-le c.pack-p.result.size c.pack-p.result.bytes (omega (arit
 
 -- Where the buffer is lent to the next call, its size is known.
 abbrev refused : tie.After-refusal-arg-1 → tie.After-pack-p
-refused c = c.before.before.before.before
+refused c = c.before.before
 refused-sized : (c : tie.After-refusal-arg-1) → length (start (refused c)).args.out.now ≡ max_bytes
 refused-sized c = search rules
 
-abbrev packed : tie.After-bytes-arg2 → tie.After-pack-p
-packed c = c.before.before.before.before.before.before.before
+abbrev packed : tie.After-bytes-arg-1 → tie.After-pack-p
+packed c = c.before.before.before.before.before
 
-packed-sized : (c : tie.After-bytes-arg2) → length (start (packed c)).args.out.now ≡ max_bytes
+packed-sized : (c : tie.After-bytes-arg-1) → length (start (packed c)).args.out.now ≡ max_bytes
 packed-sized c = search rules
 
 -- ---- the needs
@@ -53,7 +53,7 @@ returns : tie.Need-returns-in-Refused
 returns c =
     let k = refused c.before in let a = (start k).args in
     let few : c.refusal.result ≤ 33 = c.refusal.ensures.1 in (
-      printed-refused a.text.now k.pack-p.result k.pack-p.ensures a.out.now _ _ c.refusal.result c.refusal.new.out c.before.before.before.answer-1.given.1
+      printed-refused a.text.now k.pack-p.result k.pack-p.ensures a.out.now _ _ c.refusal.result c.refusal.new.out c.in-Refused.is
           (omega (arith, few, refused-sized c.before)) c.refusal.ensures.0,
       omega (arith, few),
     )
@@ -62,7 +62,7 @@ enum_told : tie.Need-enum_told-1
 enum_told c = search rules
 
 slice-aggregate-bytes : tie.Need-slice_bounds-bytes-end
-slice-aggregate-bytes c = sym (taken c.before.before.before.before.before)
+slice-aggregate-bytes c = sym (taken c.before.before.before.before)
 
 bytes-requires : tie.Need-bytes-requires
 bytes-requires c κs = let k = packed c in omega (arith, taken k, short k, packed-sized c)
@@ -71,7 +71,7 @@ returns-2 : tie.Need-returns
 returns-2 c =
     let k = packed c.before in let a = (start k).args in let q = k.pack-p.result in
     let few : c.bytes.result ≤ max_bytes = omega (arith, taken k, short k, wrote-end 0 c.bytes.result (take q.size q.bytes) a.out.now c.bytes.new.out c.bytes.ensures) in (
-      printed-packed a.text.now q k.pack-p.ensures a.out.now c.bytes.result c.bytes.new.out c.before.before.before.before.before.enum_told-1.given.1
+      printed-packed a.text.now q k.pack-p.ensures a.out.now c.bytes.result c.bytes.new.out c.in_default.is
           (omega (arith, few, packed-sized c.before)) c.bytes.ensures,
       few,
     )

@@ -58,7 +58,7 @@ module _ (c : tie.After-digits-next) where
   number-room : (c.digits-next.result ≤ 11) × (length c.digits-next.new.out ≡ length start.args.out.now)
   number-room =
       let b = worded.bytes-middle in let d = c.digits-next in
-      number-ends start.args.number b.result d.result start.args.out.now b.last.1.0 d.new.1.1.0 b.ensures d.ensures
+      number-ends start.args.number b.result d.result start.args.out.now b.new.out d.new.out b.ensures d.ensures
 
 -- The place is written.
 module _ (c : tie.After-digits-end) where
@@ -66,14 +66,14 @@ module _ (c : tie.After-digits-end) where
   digited = c.before.before.before.before
   place-room : (c.digits-end.result ≤ 32) × (length c.digits-end.new.out ≡ length (start digited).args.out.now)
   place-room =
-      let a = (start digited).args in let b = (worded digited).bytes-middle in let d = digited.digits in let e = c.digits-end in
-      place-ends a.number b.result d.result a.out.now b.last.1.0 d.last.1.1.0 b.ensures d.ensures a.place e.result e.new.1.1.0 e.ensures
+      let a = (start digited).args in let b = (worded digited).bytes-middle in let d = digited.digits-next in let e = c.digits-end in
+      place-ends a.number b.result d.result a.out.now b.new.out d.new.out b.ensures d.ensures a.place e.result e.new.out e.ensures
 
   line-fed : (c.digits-end.result + 1, set c.digits-end.new.out c.digits-end.result 10) ≡ wrote 0 (refusal_line (start digited).args.number (start digited).args.place) (start digited).args.out.now
   line-fed =
-      let s = start digited in let a = s.args in let b = (worded digited).bytes-middle in let d = digited.digits in let e = c.digits-end in
-      fed a.number b.result d.result a.out.now b.last.1.0 d.last.1.1.0 b.ensures d.ensures a.place e.result e.new.1.1.0 e.ensures
-      (omega (arith, s.fits.number.fits)) (omega (arith, s.fits.place.fits))
+      let s = start digited in let a = s.args in let b = (worded digited).bytes-middle in let d = digited.digits-next in let e = c.digits-end in
+      fed a.number b.result d.result a.out.now b.new.out d.new.out b.ensures d.ensures a.place e.result e.new.out e.ensures
+      (omega (arith, s.ranges.number.fits)) (omega (arith, s.ranges.place.fits))
 
 -- ---- the needs
 
