@@ -32,12 +32,12 @@ constant-fits c i = search rules
 
 -- It is accepted.
 abbrev reading : tie.In_default → tie.After-read-reading
-reading c = c.before.before.before.before
+reading c = c.before.before.before
 abbrev query : tie.In_default → Query
-query c = (reading c).read.result.query
+query c = (reading c).read-reading.result.query
 
 done : (c : tie.In_default) → (read_of (widths (reading c)) (bytes (reading c))).answer ≡ Done
-done c = ap (λ r. r.answer) (sym (reading c).read.ensures) ∙ c.enum_told-1.given.1
+done c = ap (λ r. r.answer) (sym (reading c).read-reading.ensures) ∙ c.in_default.is
 
 accepted : (c : tie.In_default) → Accepted (widths (reading c)) (query c)
 accepted c =
@@ -45,7 +45,7 @@ accepted c =
     subst⁻¹ (λ v. Accepted (widths r) v.query) r.read-reading.ensures
     (reading-accepted (widths r) (bytes r) (subst (λ v. (i : ℕ) → get_or v.query.constants i 0 < 2 ^ 32) r.read-reading.ensures (λ i. (constant-fits r i).fits)) (done c))
 
-found-columns : (c : tie.In_default) → (reading c).read.result.columns ≡ columns_of (columns (formula (query c)))
+found-columns : (c : tie.In_default) → (reading c).read-reading.result.columns ≡ columns_of (columns (formula (query c)))
 found-columns c =
     let r = reading c in
     subst⁻¹ (λ v. v.columns ≡ columns_of (columns (formula v.query))) r.read-reading.ensures (read-columns (widths r) (bytes r) (done c))
@@ -63,8 +63,8 @@ refused-requires c κs = search rules
 
 returns : tie.Need-returns-in-Refused
 returns c =
-    let t = c.before.before in let r = t.before.before.before.before in
-    c.refused.ensures ∙ refused-with (widths r) (bytes r) r.read-reading.result _ _ r.read-reading.ensures t.answer-1.given.1
+    let r = c.before.before.before.before in
+    c.refused.ensures ∙ refused-with (widths r) (bytes r) r.read-reading.result _ _ r.read-reading.ensures c.in-Refused.is
 
 enum_told : tie.Need-enum_told-1
 enum_told c = search rules

@@ -56,21 +56,21 @@ abbrev formed : tie.After-generated-sets → tie.After-form_of-form
 formed c = c.before.before.before
 abbrev sets : tie.After-generators-generators → tie.After-generated-sets
 sets c = c.before.before.before.before.before.before
-root-set : (c : tie.After-generators-generators) → let f = (formed (sets c)).form_of-form.result in get_or (sets c).generated.result.plains (f.node_count - 1) 0 ≡ plain_bits f.nodes (f.node_count - 1)
+root-set : (c : tie.After-generators-generators) → let f = (formed (sets c)).form_of-form.result in get_or (sets c).generated-sets.result.plains (f.node_count - 1) 0 ≡ plain_bits f.nodes (f.node_count - 1)
 root-set c =
-    let f = (formed (sets c)).form_of.result in
-    ap (λ s. get_or s.plains (f.node_count - 1) 0) (sets c).generated.ensures ∙ plains_at f.nodes f.node_count (f.node_count - 1) (omega (arith, (is-form (formed (sets c))).some_node))
+    let f = (formed (sets c)).form_of-form.result in
+    ap (λ s. get_or s.plains (f.node_count - 1) 0) (sets c).generated-sets.ensures ∙ plains_at f.nodes f.node_count (f.node_count - 1) (omega (arith, (is-form (formed (sets c))).some_node))
 
 -- All is found.
 abbrev reported : tie.After-unranged-unranged → tie.After-generators-generators
 reported c = c.before.before.before.before
 finished : (c : tie.After-unranged-unranged) (b : Bool) → let u = c.before.before.before.ungenerated-ungenerated.result in let w = c.unranged-unranged.result in b ≡ (eqb u 0 && eqb w 0)
     → let f = formed (sets (reported c)) in
-    reply f.form_of-form.result (given-columns f.before) (reported c).generators.result u w b ≡ judged (query f.before)
+    reply f.form_of-form.result (given-columns f.before) (reported c).generators-generators.result u w b ≡ judged (query f.before)
 finished c b e =
     let g = reported c in let f = formed (sets g) in let s = f.before in let a = accepted s in
-    assembled a.0 (query s) a.1 f.form_of.result (given-columns s) g.generators-generators.result c.before.before.before.ungenerated-ungenerated.result c.unranged-unranged.result b
-    f.form_of.ensures (columns-right s) g.generators-generators.ensures
+    assembled a.0 (query s) a.1 f.form_of-form.result (given-columns s) g.generators-generators.result c.before.before.before.ungenerated-ungenerated.result c.unranged-unranged.result b
+    f.form_of-form.ensures (columns-right s) g.generators-generators.ensures
     (c.before.before.before.ungenerated-ungenerated.ensures ∙ ap (λ m. missing_from m (variables_in (given-columns s))) (root-set g))
     c.unranged-unranged.ensures e
 

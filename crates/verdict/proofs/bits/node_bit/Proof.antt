@@ -25,7 +25,7 @@ at_each test n h = ap (λ entries. get_or entries n 0) test ∙ get_d_tabulate r
 mul-result : tie.Need-offset_bounds-n
 mul-result c = search rules
 
-array-read-result : tie.Need-array-read-result
+array-read-result : tie.Need-bounds-n
 array-read-result c = search rules
 
 -- The test passes: the check computes the 64 values and compares them with the entries.

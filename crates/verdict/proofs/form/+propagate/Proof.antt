@@ -56,17 +56,17 @@ node : (t : ℕ) (c : propagate-lts.After-fields-f (propagate-claims t) (propaga
 node t c = c.fields-f.ensures
 
 -- An and or an or.
-join-of : (t : ℕ) (c : propagate-lts.In-4 (propagate-claims t) (propagate-at t) propagate.Post) → let s = begun t c.before.before.before in (u : Bool) × (kind (get_or s.args.nodes.now s.args.i 0) ≡ join_kind u)
+join-of : (t : ℕ) (c : propagate-lts.In-4 (propagate-claims t) (propagate-at t) propagate.Post) → let s = begun t c.before in (u : Bool) × (kind (get_or s.args.nodes.now s.args.i 0) ≡ join_kind u)
 join-of t c =
-    let f = c.before.before.before in let s = begun t f in let k = ap (λ g. g.kind) (node t f).reads in
+    let f = c.before in let s = begun t f in let k = ap (λ g. g.kind) (node t f).reads in
     join_kind-of (kind (get_or s.args.nodes.now s.args.i 0)) (omega (arith, k)) (omega (arith, k))
 
 -- Its left subtree is written, up to `middle`.
 module _ (t : ℕ) (c : propagate-lts.After-propagate-middle (propagate-claims t) (propagate-at t) propagate.Post) where
   abbrev start : propagate-lts.Start (propagate-claims t) (propagate-at t) propagate.Post
-  start = c.before.before.before.before.before.before.before
-  abbrev read : NodeOf (get_or start.args.nodes.now start.args.i 0) c.before.before.before.before.before.fields-f.result
-  read = node t c.before.before.before.before.before
+  start = c.before.before.before.before.before.before
+  abbrev read : NodeOf (get_or start.args.nodes.now start.args.i 0) c.before.before.before.fields-f.result
+  read = node t c.before.before.before
 
   abbrev word : ℕ
   word = get_or start.args.nodes.now start.args.i 0
@@ -132,7 +132,7 @@ propagate-quantify-requires t c κs =
 
 propagate-propagate-requires-3 : (t : ℕ) → propagate-lts.Need-propagate-middle-requires (propagate-claims t) (propagate-at t) propagate.Post
 propagate-propagate-requires-3 t c κs =
-    let f = c.before.before.before.before in let s = begun t f in let u = join-of t c.before in
+    let f = c.before.before in let s = begun t f in let u = join-of t c.before in
     rw (node t f).reads (child-asks s.requires.0 (left-asks (task t s) u.0 u.1) s.requires.1.1)
 
 propagate-sub-first : (t : ℕ) → propagate-lts.Need-overflow_sub-first (propagate-claims t) (propagate-at t) propagate.Post
@@ -142,7 +142,7 @@ propagate-mul-first : (t : ℕ) → propagate-lts.Need-offset_bounds-out-middle 
 propagate-mul-first t c = record { fits = omega (arith, middle-below t c) }
 
 propagate-element-copy-out-first : (t : ℕ) → propagate-lts.Need-bounds-out-middle (propagate-claims t) (propagate-at t) propagate.Post
-propagate-element-copy-out-first t c = omega (arith, middle-below t c)
+propagate-element-copy-out-first t c = omega (arith, middle-below t c.before)
 
 propagate-fields-requires-2 : (t : ℕ) → propagate-lts.Need-fields-top-requires (propagate-claims t) (propagate-at t) propagate.Post
 propagate-fields-requires-2 t c κs = search rules
@@ -160,7 +160,7 @@ dropped t c = rw (read t c.before.before.before.before.before).reads at c.unit.e
 
 propagate-returns : (t : ℕ) → propagate-lts.Need-returns-then-first-unit (propagate-claims t) (propagate-at t) propagate.Post
 propagate-returns t c =
-    let d = c.before.before.before.before.before in let s = start t d in let k = task t s in
+    let d = c.before.before.before.before.before.before in let s = start t d in let k = task t s in
     left-done k (unit t d) (is_join t d) (now t d) (middle t d) (left-written t d) (first-truth t c.before.before) (λ e. c.if-first-unit.true (e ∙ sym (dropped t c.before)))
 
 propagate-mul-out : (t : ℕ) → propagate-lts.Need-offset_bounds-out-at (propagate-claims t) (propagate-at t) propagate.Post
@@ -171,28 +171,28 @@ propagate-element-write-out t c = at-below (task t (start t c.before.before.befo
 
 propagate-propagate-requires-4 : (t : ℕ) → propagate-lts.Need-propagate-requires (propagate-claims t) (propagate-at t) propagate.Post
 propagate-propagate-requires-4 t c κs =
-    let d = c.before.before.before.before.before.before in let s = start t d in let k = task t s in
+    let d = c.before.before.before.before.before.before.before in let s = start t d in let k = task t s in
     rw (read t d).reads
     (child-asks s.requires.0 (right-asks k (unit t d) (is_join t d) s.args.at (omega arith))
     (cleared-zeros k (unit t d) (is_join t d) (now t d) (middle t d) (left-written t d) (first-truth t c.before.before.before) (c.before.if-first-unit.false ∙ dropped t c.before.before)))
 
 propagate-returns-2 : (t : ℕ) → propagate-lts.Need-returns-then-top_kind-eq0 (propagate-claims t) (propagate-at t) propagate.Post
 propagate-returns-2 t c =
-    let d = c.before.before.before.before.before.before.before in let s = start t d in let k = task t s in
+    let d = c.before.before.before.before.before.before.before.before in let s = start t d in let k = task t s in
     right-done k (unit t d) (is_join t d) (now t d) (middle t d) (left-written t d) (first-truth t c.before.before.before.before) (c.before.before.if-first-unit.false ∙ dropped t c.before.before.before) (rw (read t d).reads at c.propagate.ensures)
 
 propagate-propagate-requires-5 : (t : ℕ) → propagate-lts.Need-propagate-end-requires-in-4 (propagate-claims t) (propagate-at t) propagate.Post
 propagate-propagate-requires-5 t c κs =
-    let d = c.before.before.before.before in let s = start t d in let k = task t s in
+    let d = c.before.before.before.before.before in let s = start t d in let k = task t s in
     rw (read t d).reads (child-asks s.requires.0 (right-asks k (unit t d) (is_join t d) (middle t d) (left_grown t d).short) (left_grown t d).again)
 
 -- Both subtrees are written.
-right-written : (t : ℕ) (c : propagate-lts.After-propagate-end-in-4 (propagate-claims t) (propagate-at t) propagate.Post) → let d = c.before.before.before.before.before in Done (start t d).args.nodes.now (right (word t d)) (now t d) (middle t d) (c.propagate-end-in-4.result, c.propagate-end-in-4.new.out)
+right-written : (t : ℕ) (c : propagate-lts.After-propagate-end-in-4 (propagate-claims t) (propagate-at t) propagate.Post) → let d = c.before.before.before.before.before.before in Done (start t d).args.nodes.now (right (word t d)) (now t d) (middle t d) (c.propagate-end-in-4.result, c.propagate-end-in-4.new.out)
 right-written t c = rw (read t c.before.before.before.before.before.before).reads at c.propagate-end-in-4.ensures
 
 propagate-join-requires : (t : ℕ) → propagate-lts.Need-join-requires (propagate-claims t) (propagate-at t) propagate.Post
 propagate-join-requires t c κs =
-    let d = c.before.before.before.before.before.before in let s = start t d in let k = task t s in
+    let d = c.before.before.before.before.before.before.before in let s = start t d in let k = task t s in
     let g = both-grown k (unit t d) (is_join t d) (now t d) (middle t d) (left-written t d) c.before.propagate-end-in-4.new.out c.before.propagate-end-in-4.result (right-written t c.before) in
     let a = right-asks k (unit t d) (is_join t d) (middle t d) (left_grown t d).short in
     ((omega arith, omega arith, (left_grown t d).longer, g.longer, omega (arith, g.short, a.room)), g.again)
@@ -218,14 +218,14 @@ propagate-returns-5 t c =
 
 propagate-returns-6 : (t : ℕ) → propagate-lts.Need-returns-else-top_kind-eq0 (propagate-claims t) (propagate-at t) propagate.Post
 propagate-returns-6 t c =
-    let d = c.before.before.before.before.before.before.before in let k = task t (start t d) in
+    let d = c.before.before.before.before.before.before.before.before in let k = task t (start t d) in
     join-done k (unit t d) (is_join t d) (now t d) (middle t d) (left-written t d) (kind-not-read c.before.before.before.before.before.fields-top.ensures c.before.before.before.before.if-top_kind-eq0.false) c.before.before.propagate-end-in-4.new.out c.before.before.propagate-end-in-4.result (right-written t c.before.before) (rw (read t d).reads at c.join.ensures)
 
 propagate-returns-7 : (t : ℕ) → propagate-lts.Need-returns-in_default (propagate-claims t) (propagate-at t) propagate.Post
 propagate-returns-7 t c =
     let f = c.before.before.before.before in let s = begun t f in let r = c.before.before.before.in_default-1.rest in let k = ap (λ g. g.kind) (node t f).reads in
     leaf-done (task t s)
-    (⊎_elim (λ f. omega (arith, k, f.taken, r.0.0.1, r.0.1)) (λ f. omega (arith, k, f.1.left, r.1, node-kind (task t s))) c.before.before.in_default.branch-raw)
+    (⊎_elim (λ f. omega (arith, k, f.if-kind-lt2-1.true, r.0.0.1, r.0.1)) (λ f. omega (arith, k, f.if-kind-lt6-1.false, r.1, node-kind (task t s))) c.before.before.in_default.branch-raw)
     c.push-in_default.ensures
 
 pub +propagate_spec : {M : Type 1} → statement M

@@ -51,7 +51,7 @@ returns-3 c = let n = c.before.before.before.before.fields-f.ensures in rw (n.re
 
 returns-4 : tie.Need-returns-in_default
 returns-4 c =
-    let n = c.before.fields-f.ensures in let s = c.before.before.args in let r = c.in_default.rest in
+    let n = c.before.fields-f.ensures in let s = c.before.before.args in let r = c.in_default.in_default-own.rest in
     sym (denied-none s.w (λ k. get_or s.plains.now k 0) (λ k. get_or s.denieds.now k 0) (kind-not-read n r.0.0.1) (kind-not-read n r.0.1) (kind-not-read n r.1))
 
 pub denied_spec : {M : Type 1} → statement M

@@ -138,7 +138,7 @@ returns-9 c = let n = c.before.before.before.before.before.fields-f.ensures in r
 
 returns-10 : tie.Need-returns-in_default
 returns-10 c =
-    let f = c.before.before in let n = f.fields-f.ensures in let r = c.in_default.rest in
+    let f = c.before.before in let n = f.fields-f.ensures in let r = c.in_default.in_default-own.rest in
     rw
     (kind-seven f.before.args.w f.before.ranges.w.fits (kind-not-read n r.0.0.0.0.0.0.1) (kind-not-read n r.0.0.0.0.0.1) (kind-not-read n r.0.0.0.0.1) (kind-not-read n r.0.0.0.1) (kind-not-read n r.0.0.1) (kind-not-read n r.0.1) (kind-not-read n r.1))
 

@@ -47,8 +47,8 @@ loop-again c =
       omega arith,
       l.invariant.1,
       ⊎_elim
-          (λ w. w.missing-is ∙ missing-more s.set s.columns.variables l.c c.before.before.wide-x.result l.missing (omega (arith, l.invariant.1)) c.before.before.wide-x.ensures.0 l.invariant.2 w.term_bit-missing.result w.term_bit-missing.ensures (says ∙ w.if-not-is_in.true))
-          (λ w. w.missing-is ∙ missing-still s.set s.columns.variables l.c c.before.before.wide-x.result l.missing (omega (arith, l.invariant.1)) c.before.before.wide-x.ensures.0 l.invariant.2 (says ∙ w.if-not-is_in.false))
+          (λ w. w.missing-is ∙ missing-more s.set s.columns.variables l.c c.before.before.wide-x.result l.missing (omega (arith, l.invariant.1)) c.before.before.wide-x.ensures.0 l.invariant.2 w.term_bit-missing.result w.term_bit-missing.ensures (says ∙ ap not w.if-not-is_in.true))
+          (λ w. w.missing-is ∙ missing-still s.set s.columns.variables l.c c.before.before.wide-x.result l.missing (omega (arith, l.invariant.1)) c.before.before.wide-x.ensures.0 l.invariant.2 (says ∙ ap not w.if-not-is_in.false))
           c.if-not-is_in.branch-raw,
     )
 

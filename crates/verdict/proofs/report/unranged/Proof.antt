@@ -59,9 +59,9 @@ loop-again c =
     let p = is_unranged s.nodes.now in (
       omega arith,
       ⊎_elim
-          (λ v. v.node_bit-found ∙ bits-more p max_nodes l.i l.found l.invariant.1 v.if-not-is_in.result v.if-not-is_in.ensures (unranged-found s.nodes.now s.plains.now s.n l.i true t.requires.0 t.requires.1 (omega arith) (kind-read n v.if-kind-eq6.true) (ap not (sym (rw n.reads at v.is_in-arg-1.ensures)) ∙ v.is_in.true)))
+          (λ v. v.found-is ∙ bits-more p max_nodes l.i l.found l.invariant.1 v.node_bit-found.result v.node_bit-found.ensures (unranged-found s.nodes.now s.plains.now s.n l.i true t.requires.0 t.requires.1 (omega arith) (kind-read n v.if-kind-eq6.true) (ap not (sym (rw n.reads at v.is_in.ensures)) ∙ ap not v.if-not-is_in.true)))
           (⊎_elim
-          (λ v. v.if-not-is_in ∙ bits-still p max_nodes l.i l.found l.invariant.1 (unranged-found s.nodes.now s.plains.now s.n l.i false t.requires.0 t.requires.1 (omega arith) (kind-read n v.if-kind-eq6.true) (ap not (sym (rw n.reads at v.is_in-arg-1.ensures)) ∙ v.is_in.false)))
+          (λ v. v.found-is ∙ bits-still p max_nodes l.i l.found l.invariant.1 (unranged-found s.nodes.now s.plains.now s.n l.i false t.requires.0 t.requires.1 (omega arith) (kind-read n v.if-kind-eq6.true) (ap not (sym (rw n.reads at v.is_in.ensures)) ∙ ap not v.if-not-is_in.false)))
           (λ v. v.found-is ∙ bits-still p max_nodes l.i l.found l.invariant.1 (unranged-other s.nodes.now l.i (kind-not-read n v.if-kind-eq6.false))))
           c.if-kind-eq6.branch-raw,
     )

@@ -2,7 +2,6 @@
 -- Each way to return is one law of the generation order: the sets show which way the order takes, and the calls give the nodes there.
 use native.Mathlib.Omega.{arith}
 use borrow.Author.Rules.{rules}
-use borrow.Author.Tests.{not-true, not-false}
 use Prim.Native.Nat.{ℕ, zero, suc, ◌≤◌, ◌<◌}
 use mathlib.Core.Path.{◌≡◌, refl, sym, ap, ◌∙◌}
 use mathlib.Core.Logic.{◌⊎◌, inl, inr}
@@ -151,10 +150,10 @@ module _ (t : ℕ) where
   denied-node c = c.before.before.before.before.fields-f.ensures
 
   denied-generates : (c : denied-lts.Else-not-is_in (denied-claims t) (denied_at t) denied.Post) → let a = (denied-start c).args in order.generates_denied a.nodes.now a.i a.x ≡ true
-  denied-generates c = denied-self (denied-start c).requires c.before.is_in.ensures (not-false c.before.is_in.result c.if-not-is_in.false)
+  denied-generates c = denied-self (denied-start c).requires c.before.is_in.ensures c.if-not-is_in.false
 
   denied-or : (c : denied-lts.In_default (denied-claims t) (denied_at t) denied.Post) → kind (word (denied-start c.before).requires) ≡ 5
-  denied-or c = law (denied-start c.before).requires order.denied-kind (denied-generates c.before) (kind-not-read (denied-node c.before) c.in_default.rest.0.1) (kind-not-read (denied-node c.before) c.in_default.rest.1)
+  denied-or c = law (denied-start c.before).requires order.denied-kind (denied-generates c.before) (kind-not-read (denied-node c.before) c.in_default.in_default-own.rest.0.1) (kind-not-read (denied-node c.before) c.in_default.in_default-own.rest.1)
 
   denied-mul-w : denied-lts.Need-offset_bounds-all-i (denied-claims t) (denied_at t) denied.Post
   denied-mul-w c = search rules
@@ -176,7 +175,7 @@ module _ (t : ℕ) where
 
   denied-returns : denied-lts.Need-returns-then-not-is_in (denied-claims t) (denied_at t) denied.Post
   denied-returns c =
-      let g = c.before.before.before.before.before.before.before.requires in sym (law g order.denied-none (denied-self g c.before.is_in.ensures (not-true c.before.is_in.result c.if-not-is_in.true)))
+      let g = c.before.before.before.before.before.before.before.requires in sym (law g order.denied-none (denied-self g c.before.is_in.ensures c.if-not-is_in.true))
 
   denied-plain-requires : denied-lts.Need-plain-requires (denied-claims t) (denied_at t) denied.Post
   denied-plain-requires c κs = let n = denied-node c.before in rw n.reads (to-not (denied-start c.before).requires (kind-read n c.in-3.is))
@@ -232,7 +231,7 @@ module _ (t : ℕ) where
   plain-node c = c.before.before.before.before.fields-f.ensures
 
   plain-generates : (c : plain-lts.Else-not-is_in (plain-claims t) (plain_at t) plain.Post) → let a = (plain-start c).args in order.generates a.nodes.now a.i a.x ≡ true
-  plain-generates c = plain-self (plain-start c).requires c.before.is_in.ensures (not-false c.before.is_in.result c.if-not-is_in.false)
+  plain-generates c = plain-self (plain-start c).requires c.before.is_in.ensures c.if-not-is_in.false
 
   -- An and past the second test: its left child doesn't generate x.
   plain-not-left : (c : plain-lts.Else-is_in (plain-claims t) (plain_at t) plain.Post) → let s = plain-start c.before.before.before.before in order.generates s.args.nodes.now (left (word s.requires)) s.args.x ≡ false
@@ -300,7 +299,7 @@ module _ (t : ℕ) where
 
   plain-returns : plain-lts.Need-returns-then-not-is_in (plain-claims t) (plain_at t) plain.Post
   plain-returns c =
-      let g = c.before.before.before.before.before.before.before.requires in sym (law g order.nodes-none (plain-self g c.before.is_in.ensures (not-true c.before.is_in.result c.if-not-is_in.true)))
+      let g = c.before.before.before.before.before.before.before.requires in sym (law g order.nodes-none (plain-self g c.before.is_in.ensures c.if-not-is_in.true))
 
   plain-denied-requires : plain-lts.Need-denied-requires (plain-claims t) (plain_at t) plain.Post
   plain-denied-requires c κs = let n = plain-node c.before in rw n.reads (to-not (plain-start c.before).requires (kind-read n c.in-3.is))
@@ -428,7 +427,7 @@ module _ (t : ℕ) where
   plain-returns-10 : plain-lts.Need-returns-in_default (plain-claims t) (plain_at t) plain.Post
   plain-returns-10 c =
       let at = c.before in let g = (plain-start at.before).requires in
-      c.node_bit.ensures ∙ sym (law g order.nodes-leaf (plain-generates at.before) (leaf-kind (kind (word g)) (omega (arith, at.in_default.rest, ap (λ f. f.kind) (plain-node at.before).reads)) (omega (arith, at.in_default.rest, ap (λ f. f.kind) (plain-node at.before).reads, law g order.kind-known))))
+      c.node_bit.ensures ∙ sym (law g order.nodes-leaf (plain-generates at.before) (leaf-kind (kind (word g)) (omega (arith, at.in_default.in_default-own.rest, ap (λ f. f.kind) (plain-node at.before).reads)) (omega (arith, at.in_default.in_default-own.rest, ap (λ f. f.kind) (plain-node at.before).reads, law g order.kind-known))))
 
 pub +denied_plain_spec : {M : Type 1} → statement M
 +denied_plain_spec =
