@@ -2,12 +2,12 @@
 use Prim.Native.Nat.{ℕ, zero, suc, ◌+◌, ◌-◌, ◌<◌, ◌≤◌}
 use native.Mathlib.Omega.{arith}
 use mathlib.Core.Path.{◌≡◌, refl, sym, ap, ◌∙◌}
-use mathlib.Core.Bool.{true, false, not}
+use mathlib.Core.Bool.{true, false}
 use mathlib.Core.List.{List}
 use lib.ListN.{length, get_or, drop}
 use lib.Seq.{ext_get_or, get_or-drop}
 use lib.Dec.{T, eqb}
-use borrow.Author.Tests.{eq-eqb, ne_eqb, eqb-true, eqb-false, not-true, not-false}
+use borrow.Author.Tests.{eq-eqb, ne_eqb}
 use Rattle.calculus.specs.Reflects.Laws.{reflected, reflects-T, reflects-false, reflects-same, reflects-eqb}
 use Rattle.calculus.specs.Lists.Laws.{all-of-getD}
 use Rattle.query.specs.declared.Columns.{Columns}
@@ -18,8 +18,8 @@ use Rattle.standing.specs.View.{ends}
 -- ---- whether a row ends
 
 -- Not where some value from place k on is not zero.
-pub ends-fails : (k n : ℕ) (xs : List ℕ) → k ≤ n → not (eqb (get_or xs n 0) 0) ≡ true → false ≡ ends k xs
-ends-fails k n xs h m = sym (reflects-false (reflects-T (ends k xs)) (λ t. eqb-false (get_or xs n 0) 0 (not-true (eqb (get_or xs n 0) 0) m) (sym (there t))))
+pub ends-fails : (k n : ℕ) (xs : List ℕ) → k ≤ n → (get_or xs n 0 ≡ 0 → ⊥) → false ≡ ends k xs
+ends-fails k n xs h m = sym (reflects-false (reflects-T (ends k xs)) (λ t. m (sym (there t))))
   where
     place : k + (n - k) ≡ n
     place = omega arith
@@ -27,11 +27,11 @@ ends-fails k n xs h m = sym (reflects-false (reflects-T (ends k xs)) (λ t. eqb-
     there : T (ends k xs) → 0 ≡ get_or xs n 0
     there t = reflected (reflects-eqb 0 (get_or (drop k xs) (n - k) 0)) (all-of-getD (eqb 0) (drop k xs) 0 t tt (n - k)) ∙ get_or-drop k xs (n - k) 0 ∙ ap (λ p. get_or xs p 0) place
 
-zero-by : (v : ℕ) → not (eqb v 0) ≡ false → eqb 0 v ≡ true
-zero-by v e = eq-eqb 0 v (sym (eqb-true v 0 (not-false (eqb v 0) e)))
+zero-by : (v : ℕ) → v ≡ 0 → eqb 0 v ≡ true
+zero-by v e = eq-eqb 0 v (sym e)
 
 -- It does where each value that the code looks at is zero.
-pub ends-holds : (k : ℕ) (x : Quad) → (k ≡ 0 → not (eqb x.first 0) ≡ false) → (k ≤ 1 → not (eqb x.second 0) ≡ false) → (k ≤ 2 → not (eqb x.third 0) ≡ false) → (k ≤ 3 → not (eqb x.fourth 0) ≡ false) → true ≡ ends k (values_of x)
+pub ends-holds : (k : ℕ) (x : Quad) → (k ≡ 0 → x.first ≡ 0) → (k ≤ 1 → x.second ≡ 0) → (k ≤ 2 → x.third ≡ 0) → (k ≤ 3 → x.fourth ≡ 0) → true ≡ ends k (values_of x)
 ends-holds zero x p q r s = rw (zero-by x.first (p refl), zero-by x.second (q (omega arith)), zero-by x.third (r (omega arith)), zero-by x.fourth (s (omega arith)))
 ends-holds (suc zero) x p q r s = rw (zero-by x.second (q (omega arith)), zero-by x.third (r (omega arith)), zero-by x.fourth (s (omega arith)))
 ends-holds (suc (suc zero)) x p q r s = rw (zero-by x.third (r (omega arith)), zero-by x.fourth (s (omega arith)))

@@ -30,7 +30,7 @@ mul-if3 c = let t = tested c in let p = few-numbers t.args.n t.args.k t.requires
 returns-3 : tie.Need-returns-then-a-n
 returns-3 c =
     let o = c.before in let t = tested o in let s = t.args in
-    sym (joined-exceed s.joined s.left s.n s.m s.k s.a s.b t.fits.joined.fits o.before.if-joined-n.false t.fits.left.fits o.if-left-m.false c.if-a-n.true)
+    sym (joined-exceed s.joined s.left s.n s.m s.k s.a s.b t.ranges.joined.fits o.before.if-joined-n.false t.ranges.left.fits o.if-left-m.false c.if-a-n.true)
 
 mul-if4 : tie.Need-overflow_mul-m
 mul-if4 c = let t = tested c.before in let p = few-numbers t.args.m t.args.k t.requires.1 t.requires.2 in record { fits = omega (arith, p) }
@@ -38,12 +38,12 @@ mul-if4 c = let t = tested c.before in let p = few-numbers t.args.m t.args.k t.r
 returns-4 : tie.Need-returns-then-b-m
 returns-4 c =
     let o = c.before.before in let t = tested o in let s = t.args in
-    sym (left-exceed s.joined s.left s.n s.m s.k s.a s.b t.fits.joined.fits o.before.if-joined-n.false t.fits.left.fits o.if-left-m.false c.before.if-a-n.false c.if-b-m.true)
+    sym (left-exceed s.joined s.left s.n s.m s.k s.a s.b t.ranges.joined.fits o.before.if-joined-n.false t.ranges.left.fits o.if-left-m.false c.before.if-a-n.false c.if-b-m.true)
 
 returns-5 : tie.Need-returns
 returns-5 c =
     let o = c.before.before in let t = tested o in let s = t.args in
-    sym (none-met s.joined s.left s.n s.m s.k s.a s.b t.fits.joined.fits o.before.if-joined-n.false t.fits.left.fits o.if-left-m.false c.before.if-a-n.false c.if-b-m.false)
+    sym (none-met s.joined s.left s.n s.m s.k s.a s.b t.ranges.joined.fits o.before.if-joined-n.false t.ranges.left.fits o.if-left-m.false c.before.if-a-n.false c.if-b-m.false)
 
 pub cause_spec : {M : Type 1} → statement M
 cause_spec =

@@ -2,6 +2,8 @@
 use Prim.Native.Nat.{◌-◌}
 use native.Mathlib.Omega.{arith}
 use borrow.Author.Rules.{rules}
+use mathlib.Core.Path.{ap}
+use mathlib.Core.Bool.{not}
 use mathlib.Core.List.{[]}
 use lib.ListN.{take}
 use Rattle.calculus.specs.Order.Laws.{AscendsFrom, ascends-starts, ascends-ends, ascends-stops, ascends-goes}
@@ -36,7 +38,7 @@ returns : tie.Need-returns-then-not-below invariant-loop decreases-loop
 returns c =
     let t = c.before in let l = t.before.before.before.before in let s = l.before in let vs = s.args.values.now in let n = s.args.count in
     ascends-stops row_below (take n (row_places vs)) n (length-first vs n s.requires) l.loop-i.i l.loop-i.invariant
-    [] (row_at vs) (getD-first vs n s.requires) (omega arith) t.below.ensures t.before.before.read.ensures t.before.read-in-loop-i.ensures c.if-not-below.true
+    [] (row_at vs) (getD-first vs n s.requires) (omega arith) t.below.ensures t.before.before.read.ensures t.before.read-in-loop-i.ensures (ap not c.if-not-below.true)
 
 add-i : tie.Need-overflow_add-i invariant-loop decreases-loop
 add-i c = search rules
@@ -48,7 +50,7 @@ loop-again : tie.Need-loop-i-preserved invariant-loop decreases-loop
 loop-again c =
     let t = c.before in let l = t.before.before.before.before in let s = l.before in let vs = s.args.values.now in let n = s.args.count in
     ascends-goes row_below (take n (row_places vs)) n (length-first vs n s.requires) l.loop-i.i l.loop-i.invariant
-    [] (row_at vs) (getD-first vs n s.requires) (omega arith) t.below.ensures t.before.before.read.ensures t.before.read-in-loop-i.ensures c.if-not-below.false
+    [] (row_at vs) (getD-first vs n s.requires) (omega arith) t.below.ensures t.before.before.read.ensures t.before.read-in-loop-i.ensures (ap not c.if-not-below.false)
 
 returns-2 : tie.Need-returns invariant-loop decreases-loop
 returns-2 c =

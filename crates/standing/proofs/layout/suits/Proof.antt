@@ -1,7 +1,7 @@
 -- `standing::layout::suits` meets its contract: with the query's columns and at most `max_rows` rows, the tests of the layout are left, and each call that finds
 -- nothing is a law's premise at each later way out.
 use borrow.Author.Rules.{rules}
-use borrow.Author.Tests.{not-true, not-false}
+use borrow.Author.Tests.{lt-ltb, le-ltb}
 use mathlib.Core.Path.{◌≡◌, sym, ◌∙◌}
 use mathlib.Core.Logic.{⊎_elim}
 use mathlib.Core.Bool.{true, false, ◌&&◌}
@@ -58,7 +58,7 @@ rest-is-zero c = sym c.before.rest_zero.ensures ∙ c.if-not-rest_zero.false
 
 -- An endless list has no rows.
 no-rows-marked : (c : tie.Joined-else-view) → ((list (held c.before)).endless && ltb 0 (list (held c.before)).rows.count) ≡ false
-no-rows-marked c = ⊎_elim (λ h i. h.0.taken i && h.1.left i) (λ h i. h.left i && ltb 0 (list (held c.before)).rows.count) c.else-view.branch-raw
+no-rows-marked c = ⊎_elim (λ h i. h.if-view.true i && le-ltb 0 _ h.if-count-gt0.false i) (λ h i. h.if-view.false i && ltb 0 (list (held c.before)).rows.count) c.else-view.branch-raw
 
 -- ---- the needs
 
@@ -84,22 +84,22 @@ all-ascend-requires : tie.Need-all_ascend-requires
 all-ascend-requires c κs = search rules
 
 returns-4 : tie.Need-returns-then-not-all_ascend
-returns-4 c = let f = c.before.before.before in let t = counted f in suits-unordered (list t) (columns t) (asked (agreed t)).requires (same-columns (agreed t)) t.if-count-gt-ROWS.left (all-ended f) (sym c.before.all_ascend.ensures ∙ c.if-not-all_ascend.true)
+returns-4 c = let f = c.before.before.before in let t = counted f in suits-unordered (list t) (columns t) (asked (agreed t)).requires (same-columns (agreed t)) t.if-count-gt-ROWS.false (all-ended f) (sym c.before.all_ascend.ensures ∙ c.if-not-all_ascend.true)
 
 rest-zero-requires : tie.Need-rest_zero-requires
 rest-zero-requires c κs = search rules
 
 returns-5 : tie.Need-returns-then-not-rest_zero
-returns-5 c = let g = c.before.before.before in let t = counted (ended g) in suits-full (list t) (columns t) (asked (agreed t)).requires (same-columns (agreed t)) t.if2.left (all-ended (ended g)) (all-ordered g) (sym c.before.rest_zero.ensures ∙ c.if-not-rest_zero.true)
+returns-5 c = let g = c.before.before.before in let t = counted (ended g) in suits-full (list t) (columns t) (asked (agreed t)).requires (same-columns (agreed t)) t.if-count-gt-ROWS.false (all-ended (ended g)) (all-ordered g) (sym c.before.rest_zero.ensures ∙ c.if-not-rest_zero.true)
 
 returns-6 : tie.Need-returns-then-count-gt0
-returns-6 c = let g = c.before.before in let t = held g in suits-marked (list t) (columns t) (asked (agreed t)).requires (same-columns (agreed t)) t.if-count-gt-ROWS.left (all-ended (ended (ordered g))) (all-ordered (ordered g)) (rest-is-zero g) (λ i. c.before.if-view.true i && c.if-count-gt0.true i)
+returns-6 c = let g = c.before.before in let t = held g in suits-marked (list t) (columns t) (asked (agreed t)).requires (same-columns (agreed t)) t.if-count-gt-ROWS.false (all-ended (ended (ordered g))) (all-ordered (ordered g)) (rest-is-zero g) (λ i. c.if-view.true i && lt-ltb 0 _ c.if-count-gt0.true i)
 
 add-up-requires : tie.Need-add_up-requires
 add-up-requires c κs = search rules
 
 returns-7 : tie.Need-returns
-returns-7 c = let g = c.before.before in let t = held g in suits-balanced (list t) (columns t) (asked (agreed t)).requires (same-columns (agreed t)) t.if-count-gt-ROWS.left (all-ended (ended (ordered g))) (all-ordered (ordered g)) (rest-is-zero g) (no-rows-marked c.before) c.add_up.ensures
+returns-7 c = let g = c.before.before in let t = held g in suits-balanced (list t) (columns t) (asked (agreed t)).requires (same-columns (agreed t)) t.if-count-gt-ROWS.false (all-ended (ended (ordered g))) (all-ordered (ordered g)) (rest-is-zero g) (no-rows-marked c.before) c.add_up.ensures
 
 pub suits_spec : {M : Type 1} → statement M
 suits_spec =

@@ -45,7 +45,7 @@ loop-again c =
       omega arith,
       position-next s.args.k l.i l.at l.invariant.1,
       search rules,
-      c.before.before.carry.ensures ∙ gather-next s.args.k l.i l.at s.args.values.now s.args.out.now l.out s.requires.0 (omega arith) c.before.before.before.before.carry-arg-1.given.0 l.invariant.1 l.invariant.3,
+      c.before.before.carry.ensures ∙ gather-next s.args.k l.i l.at s.args.values.now s.args.out.now l.out s.requires.0 (omega arith) c.carry-arg-1.given l.invariant.1 l.invariant.3,
     )
 
 same_length : tie.Need-shape_of-out invariant-loop decreases-loop

@@ -3,7 +3,6 @@
 use Prim.Native.Nat.{ℕ, ◌+◌, ◌*◌, ◌≤◌, ◌<◌, ◌-◌}
 use native.Mathlib.Omega.{arith}
 use borrow.Author.Rules.{rules}
-use borrow.Author.Tests.{not-true, not-false}
 use mathlib.Core.Path.{◌≡◌, ap, subst, subst⁻¹, sym, ◌∙◌}
 use mathlib.Core.Logic.{⊎_elim}
 use lib.ListN.{length, take, length-replicate}
@@ -72,7 +71,7 @@ loop-again c =
     let told = tested (λ (x : Row). any_of (same_list x) ys) c.before.stands.ensures here in
     let e : rows_with c.if-not-stands.values c.if-not-stands.count ≡ stored (found xs (i + 1) ys) =
     ⊎_elim
-    (λ w. (λ q. rows_with ((w.values-is ∙ w.carry.ensures) q) (w.count-is q)) ∙ found-written xs ys i few l.values l.count w.carry-arg-1.given.0 l.invariant.4 (told ∙ w.if-not-stands.true))
+    (λ w. (λ q. rows_with ((w.values-is ∙ w.carry.ensures) q) (w.count-is q)) ∙ found-written xs ys i few l.values l.count w.carry-arg-1.given l.invariant.4 (told ∙ w.if-not-stands.true))
     (λ w. (λ q. rows_with (w.values-is q) (w.count-is q)) ∙ l.invariant.4 ∙ ap stored (sym (found-without xs ys i few (told ∙ w.if-not-stands.false))))
     c.if-not-stands.branch-raw in
     let z = found-sizes xs ys (i + 1) (omega (arith, few)) c.if-not-stands.values c.if-not-stands.count e in
