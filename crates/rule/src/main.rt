@@ -20,16 +20,16 @@ fn room() -> [u8; SPACE]
     [0; SPACE]
 }
 
-fn main() {
+fn main(rt: HostRuntime) {
     let mut space = room();
-    let p = streams::read_all(&mut space);
+    let p = streams::read_all(&mut rt.stdin(), &mut space);
     if p.failed {
-        os::fail(b"standard input");
+        let _ = eprintln!(rt; "standard input: a read failed");
         return;
     }
     let size = p.bytes;
     if size == SPACE {
-        io::write_all(libc::STDERR_FILENO, b"standard input: over 1048576 bytes\n");
+        let _ = eprintln!(rt; "standard input: over 1048576 bytes");
         return;
     }
     let mut out = [0u8; PACKED];
@@ -37,7 +37,7 @@ fn main() {
     // As a slice, by way of a reference: that gives the proof the length.
     let whole = &out;
     let bytes: &[u8] = whole;
-    if !io::write_all(1, &bytes[..n]) {
-        os::fail(b"standard output");
+    if let Err(e) = rt.write_all(&bytes[..n]) {
+        let _ = eprintln!(rt; "standard output: {e}");
     }
 }

@@ -1,7 +1,9 @@
-// Standard input, read to its end into a lent space. For the programs, which hand what was read to a function that decides what is printed.
+// A reader such as standard input, read to its end into a lent space. For the programs, which hand what was read to a function that decides what is printed.
 #![tactic(auto)]
 
 ghost use Rattle.std.specs.Prelude.{◌≤◌, length};
+
+use std::io::{ErrorKind, Read};
 
 // The most reads that are made: far more than there are bytes in the space of any program, also where signals interrupt some.
 const READS: usize = 10000000;
@@ -15,7 +17,7 @@ pub struct Progress {
 }
 
 // One read more, into the space past the bytes that are there. One that a signal interrupts before it brings a byte is made again.
-fn read_on(space: &mut [u8], from: usize) -> Progress
+fn read_on<R: Read>(input: &mut R, space: &mut [u8], from: usize) -> Progress
     requires { from ≤ length space.old }
     ensures { result.bytes ≤ length space.new }
 {
@@ -26,25 +28,22 @@ fn read_on(space: &mut [u8], from: usize) -> Progress
             failed: false,
         };
     }
-    let got = libc::read(0, &mut space[from..]);
-    if got < 0 {
-        let again = os::errno() == libc::EINTR;
-        return Progress {
+    match input.read(&mut space[from..]) {
+        Ok(more) => Progress {
+            bytes: from + more,
+            ended: more == 0,
+            failed: false,
+        },
+        Err(e) => Progress {
             bytes: from,
             ended: false,
-            failed: !again,
-        };
-    }
-    let more = io::count(got, &space[from..]);
-    Progress {
-        bytes: from + more,
-        ended: more == 0,
-        failed: false,
+            failed: e.kind() != ErrorKind::Interrupted,
+        },
     }
 }
 
 // Reads until the input ends, the space is full or a read fails.
-pub fn read_all(space: &mut [u8]) -> Progress
+pub fn read_all<R: Read>(input: &mut R, space: &mut [u8]) -> Progress
     ensures { result.bytes ≤ length space.new }
 {
     let mut p = Progress {
@@ -54,7 +53,7 @@ pub fn read_all(space: &mut [u8]) -> Progress
     };
     let mut reads = 0;
     while reads < READS {
-        p = read_on(space, p.bytes);
+        p = read_on(input, space, p.bytes);
         if p.ended {
             return p;
         }
