@@ -1,7 +1,7 @@
 #!/usr/bin/env python3
 """Moves the files of laws from specs/ to proofs/Theory/ in every crate, and turns their paths.
 
-usage: tools/move_laws.py    at the top of the checkout, once
+usage: tools/move_laws.py    at the top of the checkout; a second run moves nothing, and turns paths that are still the older ones
 
 A wrong definition has to be refused by the laws that rest on it. `rt ci` takes a law of specs/ that rests on a refused one for a text that can't be read, and the edit
 for a bad one; of a law in proofs/ it doesn't. Files of laws are those in a folder of a specs file's name; statements and proofs stay as they are.
@@ -58,6 +58,13 @@ def main():
         if "pub mod Theory\n" not in text:
             with open(lib, "w", encoding="utf-8") as f:
                 f.write("pub mod Theory\n" + text)
+    for crate in sorted(os.listdir("crates")):
+        theory = f"crates/{crate}/proofs/Theory"
+        for folder, dirs, names in os.walk(theory):
+            for n in names:
+                at = os.path.relpath(os.path.join(folder, n), theory)[:-5].replace("/", ".")
+                if not os.path.exists(f"crates/{crate}/specs/{at.replace('.', '/')}.antt"):
+                    turned[f"Rattle.{crate}.specs.{at}"] = f"Rattle.{crate}.proofs.Theory.{at}"
     paths = re.compile(r"Rattle\.\w+\.specs\.[\w.']+")
     for folder, dirs, names in os.walk("crates"):
         dirs[:] = [d for d in dirs if d != "out"]

@@ -8,7 +8,6 @@ use Rattle.tables.specs.declared.Store.{Store}
 use Rattle.answer.specs.declared.Found.{Found}
 use Rattle.standing.specs.declared.View.{View}
 use Rattle.standing.specs.declared.Change.{Change}
-pub mod Laws
 
 -- The store of these arrays.
 abbrev pub store_with : List ℕ → List ℕ → List ℕ → ℕ → Store

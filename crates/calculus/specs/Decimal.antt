@@ -1,6 +1,5 @@
 -- Numbers in decimal, as ASCII bytes. Definitions only; the laws are in Decimal/Laws.antt.
 use Rattle.std.specs.Prelude.{ℕ, zero, suc, ◌+◌, ◌/◌, ◌%◌, cond, List, [], ◌∷◌, ◌++◌, ltb}
-pub mod Laws
 
 -- The last k decimal digits of a number. Where k places are enough for it, and at least one, these are all its digits, without zeros in front.
 abbrev pub digits : ℕ → ℕ → List ℕ

@@ -2,7 +2,6 @@
 -- A constant is a place in a pool of values: a query keeps its pool, and two places may hold one value.
 use Rattle.std.specs.Prelude.{ℕ, ◌+◌, Bool, List, [], ◌∷◌, ◌++◌}
 use Rattle.calculus.specs.Sets.{union_of, remove}
-pub mod Laws
 
 -- A variable by its number, or a constant by its place (000: Var, Const).
 pub data Term : Type 0 where

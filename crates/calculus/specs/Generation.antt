@@ -4,7 +4,6 @@ use Rattle.calculus.specs.Sets.{In}
 use Rattle.calculus.specs.Formula.{Term, var, con, Fmla, truth, rel, eq, neg, conj, disj, exists, fv}
 use Rattle.calculus.specs.Propagation.{exists_if_free, cp}
 use Rattle.calculus.specs.Substitution.{subst_for}
-pub mod Laws
 
 -- 000: ap, the atoms that generate: a record, and a variable that equals a constant.
 pub data Ap : Fmla → Type 0 where

@@ -6,7 +6,6 @@ use Rattle.calculus.specs.Sets.{member, select, union_of}
 use Rattle.calculus.specs.Order.{sort}
 use Rattle.calculus.specs.Formula.{var, con, Fmla, truth, rel, eq, neg, conj, disj, exists, fv, fv_terms, size, Node, node, nodes}
 use Rattle.calculus.specs.Propagation.{cp}
-pub mod Laws
 
 -- What a node answers for a variable: that it doesn't generate it, or the numbers of the leaf nodes from which it does. False generates
 -- every variable from no node, so `some []` is not `none`.

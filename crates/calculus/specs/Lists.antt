@@ -1,6 +1,5 @@
 -- Lists made of a function's values. Definitions only; the laws are in Lists/Laws.antt.
 use Rattle.std.specs.Prelude.{ℕ, zero, suc, ◌-◌, List, [], ◌∷◌, ◌++◌, length, replicate}
-pub mod Laws
 
 -- f 0, f 1, .. f (n - 1).
 abbrev pub tabulate : {A : Type 0} → (ℕ → A) → ℕ → List A

@@ -1,7 +1,6 @@
 -- Strictly ascending lists, over any test for "is below". Definitions only; the laws are in Order/Laws.antt.
 use Rattle.std.specs.Prelude.{ℕ, ◌≡◌, Bool, true, false, ◌&&◌, ◌||◌, cond, List, [], ◌∷◌, T, eqb, ltb}
 use Rattle.calculus.specs.Sets.{In}
-pub mod Laws
 
 -- The laws of a strict total order.
 pub record StrictOrder {A : Type 0} (below : A → A → Bool) : Type 0 where

@@ -2,7 +2,6 @@
 use Rattle.std.specs.Prelude.{ℕ, ◌≡◌, ◌⊎◌, Bool, true, false, not, cond, T, eqb}
 use Rattle.calculus.specs.Sets.{In, member}
 use Rattle.calculus.specs.Formula.{Term, var, con, Fmla, truth, rel, eq, neg, conj, disj, exists, fv}
-pub mod Laws
 
 -- 000: exists x Q, the exists that is dropped where its variable isn't free below it.
 abbrev pub exists_if_free : ℕ → Fmla → Fmla

@@ -6,7 +6,6 @@ use Rattle.calculus.specs.Formula.{var, Fmla, truth, rel, eq, neg, conj, disj, e
 use Rattle.calculus.specs.Propagation.{exists_if_free, cp}
 use Rattle.calculus.specs.Substitution.{subst_for}
 use Rattle.calculus.specs.Generation.{Ap}
-pub mod Laws
 
 -- φ is an equality of the variables x and y, whichever stands first.
 abbrev pub Equates : Fmla → ℕ → ℕ → Type 0

@@ -5,8 +5,6 @@ use Rattle.calculus.specs.Formula.{Fmla, exists, fv, node, nodes}
 use Rattle.calculus.specs.Propagation.{cp}
 use Rattle.calculus.specs.Generation.{Generated}
 use Rattle.calculus.specs.Ranging.{Ranged}
-pub mod Laws
-pub mod Result
 
 -- ---- 000's definitions
 

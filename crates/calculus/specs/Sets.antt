@@ -1,7 +1,6 @@
 -- Finite sets, written as lists: a list stands for the set of its members, and neither order nor repeats count.
 -- Definitions only; the laws are in Sets/Laws.antt.
 use Rattle.std.specs.Prelude.{ℕ, zero, suc, max, ◌≡◌, Bool, true, false, not, ◌&&◌, ◌||◌, cond, List, [], ◌∷◌, ◌++◌, eqb}
-pub mod Laws
 
 -- x is a member.
 pub data In {A : Type 0} (x : A) : List A → Type 0 where

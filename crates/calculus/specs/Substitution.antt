@@ -2,7 +2,6 @@
 use Rattle.std.specs.Prelude.{ℕ, zero, suc, max, cond, ◌∷◌, map, eqb}
 use Rattle.calculus.specs.Sets.{fresh}
 use Rattle.calculus.specs.Formula.{Term, var, con, Fmla, truth, rel, eq, neg, conj, disj, exists, fv}
-pub mod Laws
 
 -- 000: subst_term.
 abbrev pub subst_var : ℕ → ℕ → ℕ → ℕ

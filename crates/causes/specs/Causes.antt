@@ -4,7 +4,6 @@ use Rattle.std.specs.Prelude.{ℕ, zero, suc, ◌≡◌, ◌↔◌, Bool, true, 
 use Rattle.calculus.specs.Sets.{all_of}
 use Rattle.causes.specs.declared.Answer.{Answer}
 use Rattle.causes.specs.declared.Answer.TheVariants.{Done, Refused}
-pub mod Laws
 
 -- What a check finds: nothing, or its cause, at a place.
 pub data Finding : Type 0 where

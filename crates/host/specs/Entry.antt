@@ -15,7 +15,6 @@ use Rattle.rules.specs.Reply.{packing}
 use Rattle.verdict.specs.declared.Verdict.{Verdict}
 use Rattle.answer.specs.Reply.{row_bytes}
 use Rattle.packed.specs.Packed.{judged_of, result_in, list_checks}
-pub mod Laws
 
 -- ---- numbers returned
 

@@ -10,10 +10,6 @@ use Rattle.causes.specs.Causes.{first_cause, number, place}
 use Rattle.query.specs.declared.Query.{Query}
 use Rattle.query.specs.Reading.{formula}
 use Rattle.packed.specs.Packed.{query_read, result_in, list_checks}
-pub mod Laws
-pub mod Digits
-pub mod Output
-pub mod First
 
 -- The room of the list program: 4,096 numbers.
 abbrev pub room : ℕ

@@ -16,12 +16,12 @@ use Rattle.verdict.specs.Verdict.{judged, refusal_with}
 use Rattle.answer.specs.declared.Found.{Found}
 use Rattle.answer.specs.Code.Reply.{Answerable, Evaluable, form_evaluated_by, evaluated_by}
 use Rattle.answer.specs.Reply.{Writing}
-use Rattle.answer.specs.Reply.Laws.{form-evaluated-read}
+use Rattle.answer.proofs.Theory.Reply.Laws.{form-evaluated-read}
 use Rattle.packed.specs.declared.Input.{Input}
 use Rattle.packed.specs.declared.Assessment.{Assessment}
 use Rattle.packed.specs.Code.Packed.{input_reply, input_of, with_verdict, assessed, listing_with}
 use Rattle.packed.specs.Packed.{input_checks, query_read, declined, listing_in}
-use Rattle.packed.specs.Packed.Laws.{input-answer, input-refused, input-done, judged-answer, judged-refused, judged-done, listing-refused, listing-done, input-answerable, form-constants}
+use Rattle.packed.proofs.Theory.Packed.Laws.{input-answer, input-refused, input-done, judged-answer, judged-refused, judged-done, listing-refused, listing-done, input-answerable, form-constants}
 
 -- ---- the input
 

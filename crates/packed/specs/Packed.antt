@@ -21,10 +21,6 @@ use Rattle.answer.specs.declared.Found.{Found}
 use Rattle.answer.specs.Reply.{result_of, row_checks, Writing, front, front_bytes, worked_by, RightOver, KnownTo}
 use Rattle.packed.specs.declared.part.Head.{Head}
 use Rattle.packed.specs.declared.Listing.{Listing}
-pub mod Laws
-pub mod Places
-pub mod Told
-pub mod Right
 
 -- ---- the parts, all high byte first
 

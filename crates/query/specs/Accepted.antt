@@ -7,9 +7,6 @@ use Rattle.query.specs.declared.Query.{Query}
 use Rattle.query.specs.Nodes.{children, uses, malformed, strays, mismatched}
 use Rattle.query.specs.Packing.{Packable}
 use Rattle.query.specs.Reading.{max_nodes, max_constants, pool, nodes_in, formula, query_of}
-pub mod Size
-pub mod Order
-pub mod Laws
 
 -- A query that the reader accepts for relations of the widths ws.
 pub record Accepted (ws : List ℕ) (q : Query) : Type 0 where

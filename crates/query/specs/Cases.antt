@@ -12,8 +12,6 @@ use Rattle.causes.specs.declared.Answer.TheVariants.{Done}
 use Rattle.query.specs.declared.Reading.{Reading}
 use Rattle.query.specs.Reading.{read_of, pool, formula}
 use Rattle.query.specs.Packing.{pack}
-pub mod Test
-pub mod Laws
 
 -- A worked case: the records, the packed query with the formula and constants that it is the packing of, and what documents 01 and 02 say of it.
 pub record Case : Type 0 where

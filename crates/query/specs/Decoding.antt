@@ -3,7 +3,6 @@
 use Rattle.std.specs.Prelude.{ℕ, zero, suc, ◌-◌, ◌%◌, false, cond, List, [], ◌∷◌, ◌++◌, map, length, get_or, take, eqb, leb}
 use Rattle.calculus.specs.Formula.{Term, var, con, Fmla, truth, rel, eq, neg, conj, disj, exists}
 use Rattle.query.specs.Nodes.{by_kind, truth_bit, relation, term_count, terms, variable, equal_term, left, right, under}
-pub mod Laws
 
 -- A term: 1 bit (0 variable, 1 constant), and 4 bits of variable number or place among the constants.
 abbrev pub term_of : ℕ → Term

@@ -2,9 +2,6 @@
 -- Nodes/Words.antt and Nodes/Laws.antt.
 use Rattle.std.specs.Prelude.{ℕ, zero, suc, ◌+◌, ◌*◌, ◌/◌, ◌%◌, Bool, true, false, not, ◌&&◌, ◌||◌, cond, List, [], ◌∷◌, length, get_or, take, drop, eqb, leb}
 use Rattle.calculus.specs.Sets.{any_of, union_of}
-pub mod Words
-pub mod Sums
-pub mod Laws
 
 -- ---- the fields
 

@@ -8,12 +8,6 @@ use Rattle.calculus.specs.Generators.{columns}
 use Rattle.query.specs.Nodes.{children, truth_word, record_word, equality_word, not_word, join_word, exists_word}
 use Rattle.query.specs.Decoding.{formula_at}
 use Rattle.query.specs.Reading.{max_nodes, max_constants, max_columns}
-pub mod Bytes
-pub mod Fields
-pub mod Trees
-pub mod Widths
-pub mod Numbering
-pub mod Laws
 
 -- ---- words
 

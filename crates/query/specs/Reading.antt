@@ -13,7 +13,6 @@ use Rattle.query.specs.declared.Columns.{Columns}
 use Rattle.query.specs.declared.Reading.{Reading}
 use Rattle.query.specs.Nodes.{malformed, misplaced, strays, mismatched}
 use Rattle.query.specs.Decoding.{root}
-pub mod Laws
 
 -- ---- limits
 

@@ -5,4 +5,3 @@ pub mod Draft
 pub mod Scan
 pub mod Keeping
 pub mod Finish
-pub mod Running

@@ -2,7 +2,6 @@
 use Rattle.std.specs.Prelude.{ℕ, suc, ◌≤◌, ◌<◌, ◌≡◌, List, [], ◌∷◌, ◌++◌, length, take}
 use Rattle.calculus.specs.Sets.{union_of}
 use Rattle.calculus.specs.Decimal.{numeral}
-pub mod Laws
 
 -- ---- rules
 

@@ -7,13 +7,6 @@ use Rattle.calculus.specs.Satisfaction.{Pool, fact, Database, Env}
 use Rattle.calculus.specs.Rows.{Row}
 use Rattle.query.specs.Reading.{max_nodes, max_constants}
 use Rattle.rules.specs.Grammar.{Several, several, all, Term, variable, value, Goal, holds, fails, equal, Rule, rule}
-pub mod Constants
-pub mod Limits
-pub mod Variables
-pub mod Rows
-pub mod Packing
-pub mod Widths
-pub mod Laws
 
 -- ---- the parts of a rule
 

@@ -6,7 +6,6 @@ use Rattle.causes.specs.declared.Answer.TheVariants.{Done, Refused}
 use Rattle.rules.specs.declared.Packing.{Packing}
 use Rattle.rules.specs.Grammar.{Parse}
 use Rattle.rules.specs.Reply.{packing}
-pub mod Laws
 
 -- refused
 abbrev pub word_refused : List ℕ

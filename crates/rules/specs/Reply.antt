@@ -12,7 +12,6 @@ use Rattle.query.specs.Packing.{words, pack}
 use Rattle.rules.specs.declared.Packing.{Packing}
 use Rattle.rules.specs.Grammar.{Rule, Parse, parsed, outside}
 use Rattle.rules.specs.Meaning.{head, goals, RuleRow, pool_of, formula_of, overstepped, Allowed}
-pub mod Laws
 
 -- The bytes of the longest packed query: 2, 16 constants and 64 nodes of 4.
 abbrev pub max_bytes : ℕ

@@ -8,13 +8,13 @@ use mathlib.Core.Path.{◌≡◌, refl, sym, ap, ◌∙◌}
 use mathlib.Core.List.{List, [], ◌∷◌, ◌++◌, map, map-append, append-nil}
 use lib.ListN.{length, get_or, take, drop, set, length-append, length-drop, length-map}
 use lib.Seq.{get_or-drop, take-suc, take-take, drop-drop, take_at, drop_at, length-take-le, paste, paste-suc}
-use Rattle.calculus.specs.Sets.Laws.{union-append}
+use Rattle.calculus.proofs.Theory.Sets.Laws.{union-append}
 use Rattle.calculus.specs.Rows.{Row, numbers}
 use Rattle.answer.specs.Code.Listing.{cut}
-use Rattle.answer.specs.Code.Listing.Cut.{length_cut, cut-width, cut-next, position-within}
+use Rattle.answer.proofs.Theory.Code.Listing.Cut.{length_cut, cut-width, cut-next, position-within}
 use Rattle.standing.specs.View.{max_rows, row_places, stored}
-use Rattle.answer.specs.Code.Listing.Rows.{numbers-width}
-use Rattle.standing.specs.View.Laws.{length-row_places, getD-row_places, row-at-taken, width-rows, stored_next}
+use Rattle.answer.proofs.Theory.Code.Listing.Rows.{numbers-width}
+use Rattle.standing.proofs.Theory.View.Laws.{length-row_places, getD-row_places, row-at-taken, width-rows, stored_next}
 use Rattle.standing.specs.Change.{fronted}
 
 -- ---- numbers from one list to another

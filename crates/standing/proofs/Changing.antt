@@ -5,15 +5,15 @@ use mathlib.Core.Path.{◌≡◌, refl, sym, ap, subst, subst⁻¹, ◌∙◌}
 use mathlib.Core.List.{List, []}
 use lib.ListN.{get_or}
 use Rattle.calculus.specs.Generators.{columns}
-use Rattle.calculus.specs.Reflects.Laws.{reflected}
+use Rattle.calculus.proofs.Theory.Reflects.Laws.{reflected}
 use Rattle.causes.specs.declared.Answer.{Answer}
 use Rattle.causes.specs.declared.Answer.TheVariants.{Done, Refused}
 use Rattle.causes.specs.Causes.{Check, first_cause}
-use Rattle.causes.specs.Causes.Laws.{first_done, later-done, first-passed}
+use Rattle.causes.proofs.Theory.Causes.Laws.{first_done, later-done, first-passed}
 use Rattle.tables.specs.declared.Store.{Store}
 use Rattle.tables.specs.declared.Changed.{Changed}
 use Rattle.tables.specs.Store.{capacity, held, judgement}
-use Rattle.tables.specs.Store.Laws.{reflects-layout, judged-layout}
+use Rattle.tables.proofs.Theory.Store.Laws.{reflects-layout, judged-layout}
 use Rattle.tables.specs.Change.{reply}
 use Rattle.query.specs.declared.Reading.{Reading}
 use Rattle.query.specs.Reading.{formula, read_of}
@@ -25,9 +25,9 @@ use Rattle.standing.specs.View.{suits}
 use Rattle.standing.specs.Checks.{Action, view_checks, record_checks}
 use Rattle.standing.specs.Change.{begin_checks, ready_checks, refusal, store_after, change_of}
 use Rattle.standing.specs.Code.Change.{readied, Suits, altered, maintained}
-use Rattle.standing.specs.Change.Laws.{readied-cause, begun-judged, begun-answerable, readied-is}
-use Rattle.standing.specs.Change.Stores.{altered-is, after-judged}
-use Rattle.standing.specs.Change.Calls.{change-unready, change-refused, change-maintained}
+use Rattle.standing.proofs.Theory.Change.Laws.{readied-cause, begun-judged, begun-answerable, readied-is}
+use Rattle.standing.proofs.Theory.Change.Stores.{altered-is, after-judged}
+use Rattle.standing.proofs.Theory.Change.Calls.{change-unready, change-refused, change-maintained}
 
 -- A call of an action, with what `ready` read.
 pub record Begun : Type 0 where

@@ -8,8 +8,8 @@ use lib.ListN.{length, get_or, drop}
 use lib.Seq.{ext_get_or, get_or-drop}
 use lib.Dec.{T, eqb}
 use borrow.Author.Tests.{eq-eqb, ne_eqb}
-use Rattle.calculus.specs.Reflects.Laws.{reflected, reflects-T, reflects-false, reflects-same, reflects-eqb}
-use Rattle.calculus.specs.Lists.Laws.{all-of-getD}
+use Rattle.calculus.proofs.Theory.Reflects.Laws.{reflected, reflects-T, reflects-false, reflects-same, reflects-eqb}
+use Rattle.calculus.proofs.Theory.Lists.Laws.{all-of-getD}
 use Rattle.query.specs.declared.Columns.{Columns}
 use Rattle.standing.specs.declared.Quad.{Quad}
 use Rattle.standing.specs.Code.View.{values_of}

@@ -1,3 +1,4 @@
+pub mod Theory
 pub mod Carrying
 pub mod Walking
 pub mod Judging

@@ -11,7 +11,7 @@ use lib.ListN.{length, take, drop, replicate, length-replicate}
 use lib.Dec.{T}
 use borrow.Author.Tests.{ltb-false, lt-leb}
 use Rattle.calculus.specs.Reflects.{Reflects, holds, fails}
-use Rattle.calculus.specs.Reflects.Laws.{reflects-ltb}
+use Rattle.calculus.proofs.Theory.Reflects.Laws.{reflects-ltb}
 use Rattle.calculus.specs.Lists.{padded}
 use Rattle.calculus.specs.Order.{Ascending}
 use Rattle.calculus.specs.Generators.{columns}
@@ -25,7 +25,7 @@ use Rattle.query.specs.declared.Columns.{Columns}
 use Rattle.query.specs.Reading.{formula}
 use Rattle.answer.specs.declared.Found.{Found}
 use Rattle.answer.specs.Code.Listing.{cut}
-use Rattle.answer.specs.Code.Listing.Cut.{length_cut, cut-numbers}
+use Rattle.answer.proofs.Theory.Code.Listing.Cut.{length_cut, cut-numbers}
 use Rattle.answer.specs.Reply.{result_of, exceeds, found_reply}
 use Rattle.answer.specs.Code.Reply.{Answerable, evaluated}
 use Rattle.standing.specs.declared.Rows.{Rows}
@@ -33,13 +33,13 @@ use Rattle.standing.specs.declared.View.{View}
 use Rattle.standing.specs.declared.Change.{Change}
 use Rattle.standing.specs.View.{max_rows, held_rows, stored, rows_in, kept, mark}
 use Rattle.standing.specs.Code.View.{rows_with, InOrder}
-use Rattle.standing.specs.View.Laws.{stored-none, held-rows-stored, rows_stored, stored-padded}
-use Rattle.standing.specs.View.Difference.{padded-ascending, only-in-padded, only_in-width, only_in-fewer}
-use Rattle.standing.specs.View.Layout.{Layout, suited}
+use Rattle.standing.proofs.Theory.View.Laws.{stored-none, held-rows-stored, rows_stored, stored-padded}
+use Rattle.standing.proofs.Theory.View.Difference.{padded-ascending, only-in-padded, only_in-width, only_in-fewer}
+use Rattle.standing.proofs.Theory.View.Layout.{Layout, suited}
 use Rattle.standing.specs.Checks.{is_over, report_checks}
 use Rattle.standing.specs.Change.{joining, leaving, fronted, refusal, turn_reply}
 use Rattle.standing.specs.Code.Change.{Current, told, current, Suits, maintained}
-use Rattle.standing.specs.Change.Turn.{result-wide, result-ascends, report-done, too_many, all_kept, current-over, current-kept, over-is, maintained-by}
+use Rattle.standing.proofs.Theory.Change.Turn.{result-wide, result-ascends, report-done, too_many, all_kept, current-over, current-kept, over-is, maintained-by}
 
 -- ---- at most `max_rows` rows of at most four columns
 

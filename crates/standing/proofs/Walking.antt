@@ -9,17 +9,17 @@ use mathlib.Core.List.{List, [], ◌∷◌, ◌++◌}
 use lib.ListN.{length, get_or, take, drop, replicate, length-append}
 use lib.Dec.{T, ltb}
 use borrow.Author.Tests.{lt-ltb, le-ltb}
-use Rattle.calculus.specs.Reflects.Laws.{decided, reflects-ltb}
+use Rattle.calculus.proofs.Theory.Reflects.Laws.{decided, reflects-ltb}
 use Rattle.calculus.specs.Sets.{any_of, same_list}
 use Rattle.calculus.specs.Order.{Ascending}
-use Rattle.calculus.specs.Order.Laws.{ascending-at}
+use Rattle.calculus.proofs.Theory.Order.Laws.{ascending-at}
 use Rattle.calculus.specs.Rows.{Row, row_below, only_in, Width}
-use Rattle.calculus.specs.Rows.Laws.{row-order}
+use Rattle.calculus.proofs.Theory.Rows.Laws.{row-order}
 use Rattle.standing.specs.View.{max_rows, row_at, row_places, stored}
 use Rattle.standing.specs.Code.View.{rows_with, Passed, Parted}
-use Rattle.standing.specs.View.Laws.{length-row_places, getD-row_places, row-at-taken, width-first, stored-none, length-stored, stored_next}
-use Rattle.standing.specs.View.Layout.{length-first, getD-first}
-use Rattle.standing.specs.View.Difference.{parted-in, only_in-width, only_in-fewer, only-in-also, only-in-without}
+use Rattle.standing.proofs.Theory.View.Laws.{length-row_places, getD-row_places, row-at-taken, width-first, stored-none, length-stored, stored_next}
+use Rattle.standing.proofs.Theory.View.Layout.{length-first, getD-first}
+use Rattle.standing.proofs.Theory.View.Difference.{parted-in, only_in-width, only_in-fewer, only-in-also, only-in-without}
 
 -- ---- rows passed
 

@@ -16,11 +16,6 @@ use Rattle.standing.specs.declared.Opened.{Opened}
 use Rattle.standing.specs.declared.Change.{Change}
 use Rattle.standing.specs.View.{rows_in, kept, view_of}
 use Rattle.standing.specs.Checks.{Action, view_checks, record_checks, records_after, is_over, report_checks}
-pub mod Laws
-pub mod Stores
-pub mod Places
-pub mod Calls
-pub mod Turn
 
 -- ---- opening
 

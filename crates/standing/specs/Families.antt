@@ -2,7 +2,6 @@
 -- in Families/Laws.antt.
 use Rattle.std.specs.Prelude.{ℕ, ◌≡◌, cond, eqb}
 use Rattle.std.proofs.Math.Option.{Option, none, some}
-pub mod Laws
 
 -- For each index what is kept of its list, if it was opened.
 abbrev pub Family : Type 0 → Type 0

@@ -16,8 +16,6 @@ use Rattle.query.specs.declared.Query.{Query}
 use Rattle.query.specs.Reading.{pool, formula, read_of}
 use Rattle.standing.specs.Families.{Family, no_list, with_list}
 use Rattle.standing.specs.Checks.{Action, put, removal}
-pub mod Ties
-pub mod Laws
 
 -- What a ledger keeps of a list: its query, rows, the endless mark and the three counts.
 pub record Account : Type 0 where

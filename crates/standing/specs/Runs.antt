@@ -17,9 +17,6 @@ use Rattle.standing.specs.Families.{Family, with_list, Paired}
 use Rattle.standing.specs.View.{rows_in, stored}
 use Rattle.standing.specs.Change.{opened_of, change_of}
 use Rattle.standing.specs.Ledger.{Account, Ledger, Call, Step, opening, call, Report}
-pub mod Steps
-pub mod Lists
-pub mod Laws
 
 -- ---- runs
 

@@ -9,9 +9,6 @@ use Rattle.query.specs.declared.Columns.{Columns}
 use Rattle.query.specs.Reading.{max_columns, columns_of, variables_in}
 use Rattle.standing.specs.declared.Rows.{Rows}
 use Rattle.standing.specs.declared.View.{View}
-pub mod Laws
-pub mod Difference
-pub mod Layout
 
 -- The number of row places.
 abbrev pub max_rows : ℕ

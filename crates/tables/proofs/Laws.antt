@@ -13,8 +13,8 @@ use lib.Dec.{eqb, ltb}
 use borrow.Author.Tests.{lt-ltb, le-ltb, le-leb, lt-leb, eq-eqb, ne_eqb, eqb-true, eqb-false, not-true, not-false}
 use Rattle.calculus.specs.Sets.{all_of, same_list}
 use Rattle.calculus.specs.Order.{lexicographic}
-use Rattle.calculus.specs.Order.Laws.{below-differ, same-differ, below-agree, same-agree, below-at-first, same-at-first, below-at-second, same-at-second, below-at-third, same-at-third, below-at-fourth, same-at-fourth}
-use Rattle.calculus.specs.Reflects.Laws.{reflects-true, reflects-T}
+use Rattle.calculus.proofs.Theory.Order.Laws.{below-differ, same-differ, below-agree, same-agree, below-at-first, same-at-first, below-at-second, same-at-second, below-at-third, same-at-third, below-at-fourth, same-at-fourth}
+use Rattle.calculus.proofs.Theory.Reflects.Laws.{reflects-true, reflects-T}
 use Rattle.causes.specs.declared.Answer.{Answer}
 use Rattle.causes.specs.declared.Answer.TheVariants.{Done, Refused}
 use Rattle.causes.specs.Causes.{widths_fit}
@@ -26,9 +26,9 @@ use Rattle.tables.specs.Records.{record_below, same_record, width, fits, values_
 use Rattle.tables.specs.Store.{capacity, places, places_of, record_at, held, unused, has_room, have_room, judgement, of_places, store_of, no_store}
 use Rattle.tables.specs.Code.Store.{set_values}
 use Rattle.tables.specs.Code.Layout.{orderly}
-use Rattle.tables.specs.Store.Room.{few-room}
-use Rattle.tables.specs.Store.Laws.{length-places, length-held}
-use Rattle.tables.specs.Store.Places.{length_set_values, places-set, insert-at, remove-at, insert-at-next, insert-at-end, insert-at-split, remove-at-next, remove-at-end, remove-at-split, store-placed}
+use Rattle.tables.proofs.Theory.Store.Room.{few-room}
+use Rattle.tables.proofs.Theory.Store.Laws.{length-places, length-held}
+use Rattle.tables.proofs.Theory.Store.Places.{length_set_values, places-set, insert-at, remove-at, insert-at-next, insert-at-end, insert-at-split, remove-at-next, remove-at-end, remove-at-split, store-placed}
 use Rattle.tables.specs.Code.Change.{located, found, raised, lowered, insertion, deletion}
 use Rattle.tables.specs.Change.{rank}
 use Rattle.tables.specs.Code.Fill.{beginning, merged, collected_into, collected}

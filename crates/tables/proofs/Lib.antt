@@ -1,2 +1,3 @@
+pub mod Theory
 pub mod Laws
 pub mod Runs

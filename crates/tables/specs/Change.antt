@@ -10,7 +10,6 @@ use Rattle.tables.specs.declared.Store.{Store}
 use Rattle.tables.specs.declared.Changed.{Changed}
 use Rattle.tables.specs.Records.{record_below, same_record, fits}
 use Rattle.tables.specs.Store.{held, has_room, in_layout, store_of}
-pub mod Laws
 
 -- Whether a record is among those held.
 abbrev pub is_held : Record → List Record → Bool

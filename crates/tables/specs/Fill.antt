@@ -10,7 +10,6 @@ use Rattle.tables.specs.declared.Changed.{Changed}
 use Rattle.tables.specs.Records.{record_below, fits}
 use Rattle.tables.specs.Store.{has_room, store_of, no_store}
 use Rattle.tables.specs.Change.{is_held}
-pub mod Laws
 
 -- A refused filling hands back no store.
 abbrev pub refused_filling : ℕ → ℕ → Changed

@@ -4,7 +4,6 @@ use Rattle.calculus.specs.Sets.{all_of, same_list}
 use Rattle.calculus.specs.Order.{lexicographic}
 use Rattle.calculus.specs.Satisfaction.{Fact, fact}
 use Rattle.tables.specs.declared.Record.{Record}
-pub mod Laws
 
 -- The record of a relation and four values.
 abbrev pub record_of_parts : ℕ → ℕ → ℕ → ℕ → ℕ → Record

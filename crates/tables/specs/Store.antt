@@ -9,9 +9,6 @@ use Rattle.causes.specs.Causes.{Check, check, first_cause, when, widths_fit}
 use Rattle.tables.specs.declared.Record.{Record}
 use Rattle.tables.specs.declared.Store.{Store}
 use Rattle.tables.specs.Records.{values_of, blank, record_below, is_blank, fits, fact_of}
-pub mod Room
-pub mod Laws
-pub mod Places
 
 -- The number of record places.
 abbrev pub capacity : ℕ

@@ -1,2 +1,3 @@
+pub mod Theory
 pub mod Sets
 pub mod Writing

@@ -10,14 +10,14 @@ use lib.Bits.{bit_and, bit_or}
 use borrow.Author.Tests.{eq-eqb, ne_eqb, lt-ltb}
 use Rattle.calculus.specs.Sets.{In}
 use Rattle.calculus.specs.Lists.{tabulate, padded}
-use Rattle.calculus.specs.Lists.Laws.{padded-at, padded-next}
+use Rattle.calculus.proofs.Theory.Lists.Laws.{padded-at, padded-next}
 use Rattle.query.specs.Nodes.{kind, left, right, variable, equal_term, children}
 use Rattle.query.specs.Reading.{max_nodes}
 use Rattle.verdict.specs.declared.generate.Sets.{Sets}
 use Rattle.verdict.specs.Code.Form.{IsForm}
 use Rattle.verdict.specs.Bits.{has, variable_mask}
 use Rattle.verdict.specs.Code.Generating.{plain_bits, denied_bits, sets_of, equated_set, plain_in, denied_in}
-use Rattle.verdict.specs.Code.Generating.Variables.{child-below, plain-in-same, denied_in-same, plain_step, denied-step}
+use Rattle.verdict.proofs.Theory.Code.Generating.Variables.{child-below, plain-in-same, denied_in-same, plain_step, denied-step}
 
 -- ---- the last kind: what 32 bits leave past the others
 

@@ -12,23 +12,23 @@ use lib.Seq.{take-append_seam, take-suc, take-take, length-take-le, get_or-take}
 use borrow.Author.Tests.{eq-eqb, ne_eqb, eqb-true, eqb-false}
 use Rattle.calculus.specs.Sets.{In, here, member}
 use Rattle.calculus.specs.Lists.{padded}
-use Rattle.calculus.specs.Lists.Laws.{length-padded, padded-over, padded-fill, padded-put}
+use Rattle.calculus.proofs.Theory.Lists.Laws.{length-padded, padded-over, padded-fill, padded-put}
 use Rattle.calculus.specs.Formula.{Fmla, truth, neg, exists, fv, size}
 use Rattle.calculus.specs.Propagation.{is_truth as is-a-truth, cp}
-use Rattle.calculus.specs.Propagation.Laws.{TruthView, a_truth, no_truth, truth-view, join, cp_join, join-unit-left, join-zero-left, size-cp}
+use Rattle.calculus.proofs.Theory.Propagation.Laws.{TruthView, a_truth, no_truth, truth-view, join, cp_join, join-unit-left, join-zero-left, size-cp}
 use Rattle.causes.specs.Causes.{widths_fit}
 use Rattle.query.specs.Nodes.{kind, variable, left, right, under, children, malformed, mismatched, not_word, join_word, exists_word}
-use Rattle.query.specs.Nodes.Laws.{both-children}
+use Rattle.query.proofs.Theory.Nodes.Laws.{both-children}
 use Rattle.query.specs.Decoding.{node_formula, formula_at, root}
 use Rattle.query.specs.declared.Query.{Query}
 use Rattle.query.specs.Reading.{max_nodes, max_constants, formula}
 use Rattle.query.specs.Packing.{words, Fits}
-use Rattle.query.specs.Packing.Fields.{formed-kind}
-use Rattle.query.specs.Packing.Laws.{size-positive, length-words}
-use Rattle.query.specs.Accepted.Laws.{formula-node, formula-fits, formula-last}
+use Rattle.query.proofs.Theory.Packing.Fields.{formed-kind}
+use Rattle.query.proofs.Theory.Packing.Laws.{size-positive, length-words}
+use Rattle.query.proofs.Theory.Accepted.Laws.{formula-node, formula-fits, formula-last}
 use Rattle.verdict.specs.Form.{form_of}
 use Rattle.verdict.specs.Code.Form.{IsAccepted, InQuery, written, last, true_word, settled, negated, joined, unit_word, quantified}
-use Rattle.verdict.specs.Form.Laws.{join_kind, last-truth, fits-cp, last-kind, negated-words, joined_words, quantified-words, leaf-words, equality-words}
+use Rattle.verdict.proofs.Theory.Form.Laws.{join_kind, last-truth, fits-cp, last-kind, negated-words, joined_words, quantified-words, leaf-words, equality-words}
 
 -- ---- one element more
 

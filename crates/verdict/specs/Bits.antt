@@ -4,7 +4,6 @@ use Rattle.std.specs.Int.Bits.{bit_and}
 use Rattle.calculus.specs.Sets.{member}
 use Rattle.query.specs.Nodes.{nonzero}
 use Rattle.query.specs.Reading.{max_nodes}
-pub mod Laws
 
 abbrev pub bit : Bool → ℕ
 bit b = cond b 1 0

@@ -3,7 +3,6 @@ use Rattle.calculus.specs.Propagation.{cp}
 use Rattle.query.specs.declared.Query.{Query}
 use Rattle.query.specs.Reading.{pool, formula, query_of}
 use Rattle.query.specs.Packing.{words}
-pub mod Laws
 
 -- The form of a query: its constants, and the nodes of its propagated formula, left subtree first, then right, then the parent.
 abbrev pub form_of : Query → Query

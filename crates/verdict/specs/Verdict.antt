@@ -10,8 +10,6 @@ use Rattle.query.specs.Reading.{max_columns, read_of, formula, query_of, columns
 use Rattle.verdict.specs.declared.Verdict.{Verdict}
 use Rattle.verdict.specs.Bits.{node_mask, variable_mask}
 use Rattle.verdict.specs.Form.{form_of}
-pub mod Laws
-pub mod Cases
 
 -- A refusal comes with no form, no columns, zero in every number, and not safe.
 abbrev pub refusal_with : ℕ → ℕ → Query → Columns → Verdict

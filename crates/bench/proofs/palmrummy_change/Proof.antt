@@ -6,9 +6,9 @@ use mathlib.Core.Path.{◌≡◌, subst⁻¹, ◌∙◌}
 use lib.ListN.{length}
 use Rattle.standing.specs.View.{max_rows}
 use Rattle.standing.specs.Checks.{action_of}
-use Rattle.standing.specs.Change.Calls.{FewTold, few-told}
-use Rattle.standing.specs.Change.Places.{change-place}
-use Rattle.bench.specs.Entry.Laws.{change-over, change-at, change-refused, change-done}
+use Rattle.standing.proofs.Theory.Change.Calls.{FewTold, few-told}
+use Rattle.standing.proofs.Theory.Change.Places.{change-place}
+use Rattle.bench.proofs.Theory.Entry.Laws.{change-over, change-at, change-refused, change-done}
 use Rattle.bench.proofs.palmrummy_change.Statement.{statement}
 use Rattle.bench.proofs.palmrummy_change.Tie as tie
 

@@ -1,8 +1,8 @@
 -- The entry meets its contract: what was found, as one number.
 use borrow.Author.Rules.{rules}
 use mathlib.Core.Path.{◌∙◌}
-use Rattle.answer.specs.Reply.Places.{found-place}
-use Rattle.bench.specs.Entry.Laws.{found-over, found_at, coded-refused, coded-endless, coded-rows}
+use Rattle.answer.proofs.Theory.Reply.Places.{found-place}
+use Rattle.bench.proofs.Theory.Entry.Laws.{found-over, found_at, coded-refused, coded-endless, coded-rows}
 use Rattle.bench.proofs.palmrummy_find.Statement.{statement}
 use Rattle.bench.proofs.palmrummy_find.Tie as tie
 

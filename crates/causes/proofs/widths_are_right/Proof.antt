@@ -5,7 +5,7 @@ use borrow.Author.Rules.{rules}
 use borrow.Author.Tests.{lt-leb, le-leb}
 use mathlib.Core.Path.{◌≡◌, refl, sym, ◌∙◌}
 use lib.ListN.{length, drop, drop_of_length-le}
-use Rattle.calculus.specs.Lists.Laws.{all_drop}
+use Rattle.calculus.proofs.Theory.Lists.Laws.{all_drop}
 use Rattle.causes.specs.Causes.{widths_fit}
 use Rattle.causes.proofs.widths_are_right.Statement.{statement}
 use Rattle.causes.proofs.widths_are_right.Tie as tie

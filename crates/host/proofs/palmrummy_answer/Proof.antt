@@ -2,7 +2,7 @@
 use borrow.Author.Rules.{rules}
 use mathlib.Core.List.{List}
 use Prim.Native.Nat.{ℕ}
-use Rattle.host.specs.Entry.Laws.{answer-refused, answer-place, answer-endless, answer-listed}
+use Rattle.host.proofs.Theory.Entry.Laws.{answer-refused, answer-place, answer-endless, answer-listed}
 use Rattle.host.proofs.palmrummy_answer.Statement.{statement}
 use Rattle.host.proofs.palmrummy_answer.Tie as tie
 

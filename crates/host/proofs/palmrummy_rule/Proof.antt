@@ -1,8 +1,8 @@
 -- `host::palmrummy_rule` meets its contract: what packing answers decides what is returned and left.
 use native.Mathlib.Omega.{arith}
 use borrow.Author.Rules.{rules}
-use Rattle.rules.specs.Reply.Laws.{reply-short}
-use Rattle.host.specs.Entry.Laws.{rule-refused, rule-packed}
+use Rattle.rules.proofs.Theory.Reply.Laws.{reply-short}
+use Rattle.host.proofs.Theory.Entry.Laws.{rule-refused, rule-packed}
 use Rattle.host.proofs.palmrummy_rule.Statement.{statement}
 use Rattle.host.proofs.palmrummy_rule.Tie as tie
 

@@ -4,7 +4,7 @@ use borrow.Author.Rules.{rules}
 use mir.Syntax.{w32}
 use mir.Val.{Fits}
 use lib.ListN.{get_or}
-use Rattle.host.specs.Entry.Laws.{verdict-refused, verdict-place, verdict-written, verdict-writable}
+use Rattle.host.proofs.Theory.Entry.Laws.{verdict-refused, verdict-place, verdict-written, verdict-writable}
 use Rattle.host.proofs.palmrummy_verdict.Statement.{statement}
 use Rattle.host.proofs.palmrummy_verdict.Tie as tie
 

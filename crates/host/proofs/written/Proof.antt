@@ -9,10 +9,10 @@ use lib.ListN.{length, get_or, replicate, length-set}
 use Rattle.calculus.specs.Sets.{union_of}
 use Rattle.calculus.specs.Lists.{padded}
 use Rattle.query.specs.Code.Writing.{overlay}
-use Rattle.query.specs.Code.Writing.Laws.{front-run, front-padded, length-query}
+use Rattle.query.proofs.Theory.Code.Writing.Laws.{front-run, front-padded, length-query}
 use Rattle.verdict.specs.declared.Verdict.{Verdict}
 use Rattle.host.specs.Entry.{flag, short_bytes, long_bytes, form_bytes, verdict_fields, verdict_size}
-use Rattle.calculus.specs.Lists.Laws.{four-of}
+use Rattle.calculus.proofs.Theory.Lists.Laws.{four-of}
 use Rattle.host.proofs.written.Statement.{statement}
 use Rattle.host.proofs.written.Tie as tie
 

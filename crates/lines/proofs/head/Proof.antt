@@ -6,11 +6,11 @@ use mathlib.Core.Path.{◌≡◌, sym, ap, ◌∙◌}
 use mathlib.Core.Bool.{cond}
 use mathlib.Core.List.{List, []}
 use lib.ListN.{length, take}
-use Rattle.calculus.specs.Lists.Laws.{four-of}
+use Rattle.calculus.proofs.Theory.Lists.Laws.{four-of}
 use Rattle.lines.specs.Text.{line, word_safe, word_unsafe, word_columns}
 use Rattle.query.specs.Code.Writing.{wrote}
-use Rattle.query.specs.Code.Writing.Laws.{wrote_then, wrote-end, wrote-length}
-use Rattle.lines.specs.Text.Laws.{length-verdict}
+use Rattle.query.proofs.Theory.Code.Writing.Laws.{wrote_then, wrote-end, wrote-length}
+use Rattle.lines.proofs.Theory.Text.Laws.{length-verdict}
 use Rattle.lines.proofs.head.Statement.{statement}
 use Rattle.lines.proofs.head.Tie as tie
 

@@ -14,12 +14,12 @@ use Rattle.answer.specs.Reply.{front as at_front}
 use Rattle.answer.specs.Code.Listing.{cut}
 use Rattle.packed.specs.declared.Listing.{Listing}
 use Rattle.packed.specs.Packed.{listing_of}
-use Rattle.packed.specs.Packed.Places.{listing-refused}
+use Rattle.packed.proofs.Theory.Packed.Places.{listing-refused}
 use Rattle.lines.specs.Text.{line, word_refused, word_row, word_rows, word_endless, head_text, text_of, printed}
 use Rattle.query.specs.Code.Writing.{wrote}
-use Rattle.query.specs.Code.Writing.Laws.{wrote_then, wrote-end, wrote-length}
-use Rattle.lines.specs.Text.Laws.{wrote-printed, length-head, length-line, length-cut-rows}
-use Rattle.lines.specs.Text.Output.{text-refused, text-endless, text-rows, few_columns, rows_fit}
+use Rattle.query.proofs.Theory.Code.Writing.Laws.{wrote_then, wrote-end, wrote-length}
+use Rattle.lines.proofs.Theory.Text.Laws.{wrote-printed, length-head, length-line, length-cut-rows}
+use Rattle.lines.proofs.Theory.Text.Output.{text-refused, text-endless, text-rows, few_columns, rows_fit}
 use Rattle.lines.proofs.print.Statement.{statement}
 use Rattle.lines.proofs.print.Tie as tie
 

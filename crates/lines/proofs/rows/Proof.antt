@@ -8,13 +8,13 @@ use mathlib.Core.Path.{◌≡◌, sym, ap, ◌∙◌}
 use mathlib.Core.List.{List, [], ◌∷◌, ◌++◌, append-nil}
 use lib.ListN.{length, take, drop}
 use Rattle.calculus.specs.Sets.{union_of}
-use Rattle.calculus.specs.Sets.Laws.{union-append}
+use Rattle.calculus.proofs.Theory.Sets.Laws.{union-append}
 use Rattle.answer.specs.Code.Listing.{cut}
-use Rattle.answer.specs.Code.Listing.Cut.{row-end, cut-next, position-next}
+use Rattle.answer.proofs.Theory.Code.Listing.Cut.{row-end, cut-next, position-next}
 use Rattle.lines.specs.Text.{line, word_row}
 use Rattle.query.specs.Code.Writing.{wrote}
-use Rattle.query.specs.Code.Writing.Laws.{wrote_none, wrote_then, wrote-end, wrote-length}
-use Rattle.lines.specs.Text.Laws.{length-cut-rows}
+use Rattle.query.proofs.Theory.Code.Writing.Laws.{wrote_none, wrote_then, wrote-end, wrote-length}
+use Rattle.lines.proofs.Theory.Text.Laws.{length-cut-rows}
 use Rattle.lines.proofs.rows.Statement.{statement}
 use Rattle.lines.proofs.rows.Tie as tie
 

@@ -13,12 +13,12 @@ use Rattle.causes.specs.declared.Answer.TheVariants.{Done}
 use Rattle.tables.specs.declared.Changed.{Changed}
 use Rattle.tables.specs.Code.Fill.{beginning, collect_all}
 use Rattle.tables.specs.Fill.{fill_reply}
-use Rattle.tables.specs.Fill.Laws.{fill-collects}
+use Rattle.tables.proofs.Theory.Fill.Laws.{fill-collects}
 use Rattle.query.specs.declared.Reading.{Reading}
 use Rattle.query.specs.Reading.{read_of}
 use Rattle.packed.specs.declared.Input.{Input}
 use Rattle.packed.specs.Packed.{head_in, widths_in, count_in, start, record_at, records_in, query_in, is_whole}
-use Rattle.packed.specs.Packed.Laws.{whole-lengths, extent-whole, extent-head, input-short, input-unread, input-unfilled, input-filled}
+use Rattle.packed.proofs.Theory.Packed.Laws.{whole-lengths, extent-whole, extent-head, input-short, input-unread, input-unfilled, input-filled}
 use Rattle.packed.proofs.take.Statement.{statement}
 use Rattle.packed.proofs.take.Tie as tie
 

@@ -7,7 +7,7 @@ use mathlib.Core.List.{List, ◌++◌}
 use lib.ListN.{length, take, drop, replicate}
 use lib.Seq.{take_all}
 use Rattle.calculus.specs.Lists.{tabulate, padded}
-use Rattle.calculus.specs.Lists.Laws.{length-tabulate}
+use Rattle.calculus.proofs.Theory.Lists.Laws.{length-tabulate}
 use Rattle.calculus.specs.Generators.{columns}
 use Rattle.causes.specs.declared.Answer.{Answer}
 use Rattle.causes.specs.declared.Answer.TheVariants.{Done}
@@ -17,7 +17,7 @@ use Rattle.query.specs.declared.Reading.{Reading}
 use Rattle.query.specs.Decoding.{root}
 use Rattle.query.specs.Code.Free.{columns_found}
 use Rattle.query.specs.Reading.{word_at, count_of_nodes, count_of_constants, constants_of, nodes_of, header_checks, tree_checks, columns_of, accepted, max_nodes}
-use Rattle.query.specs.Reading.Laws.{Headed, header-done, refused-header, refused-tree, refused-columns, reply-accepted, Fitting, fitting, nodes-read, nodes-padded, constants-padded}
+use Rattle.query.proofs.Theory.Reading.Laws.{Headed, header-done, refused-header, refused-tree, refused-columns, reply-accepted, Fitting, fitting, nodes-read, nodes-padded, constants-padded}
 use Rattle.query.proofs.read.Statement.{statement}
 use Rattle.query.proofs.read.Tie as tie
 

@@ -3,7 +3,6 @@ use Rattle.std.specs.Prelude.{ℕ, ◌<◌, ◌≡◌, Bool}
 use Rattle.query.specs.declared.node.Node.{Node}
 use Rattle.query.specs.Nodes.{kind, by_kind, truth_bit, relation, term_count, terms, variable, equal_term, left, right, under, truth_rest, record_rest, equality_rest, not_rest, join_rest, exists_rest}
 use Rattle.query.specs.Reading.{max_nodes}
-pub mod Laws
 
 abbrev pub fields_of : ℕ → Node
 fields_of w =

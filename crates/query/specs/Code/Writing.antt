@@ -2,7 +2,6 @@
 use Rattle.std.specs.Prelude.{ℕ, suc, ◌+◌, ◌≤◌, List, [], ◌∷◌, length, set}
 use Rattle.query.specs.declared.Query.{Query}
 use Rattle.query.specs.Reading.{max_nodes, max_constants}
-pub mod Laws
 
 -- The list with xs in the places from `at` on, as far as it reaches.
 abbrev pub overlay : ℕ → List ℕ → List ℕ → List ℕ

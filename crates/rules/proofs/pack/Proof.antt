@@ -5,7 +5,7 @@ use borrow.Author.Rules.{rules}
 use mathlib.Core.Path.{sym, ◌∙◌}
 use lib.ListN.{length}
 use Rattle.rules.specs.Code.Scan.{draft_at}
-use Rattle.rules.specs.Code.Running.{Reached, reached-start, reached-small, stops, goes_on, takes-column, takes-goals, reached-early, reached-ready, reached-done}
+use Rattle.rules.proofs.Theory.Code.Running.{Reached, reached-start, reached-small, stops, goes_on, takes-column, takes-goals, reached-early, reached-ready, reached-done}
 use Rattle.rules.proofs.pack.Statement.{statement}
 use Rattle.rules.proofs.pack.Tie as tie
 

@@ -4,7 +4,7 @@ use borrow.Author.Rules.{rules}
 use mathlib.Core.Path.{◌≡◌, sym}
 use lib.ListN.{length}
 use lib.Seq.{length-take-le}
-use Rattle.rules.specs.Reply.Laws.{reply-short, reply-refuses, reply-reads}
+use Rattle.rules.proofs.Theory.Reply.Laws.{reply-short, reply-refuses, reply-reads}
 use Rattle.rules.proofs.read.Statement.{statement}
 use Rattle.rules.proofs.read.Tie as tie
 

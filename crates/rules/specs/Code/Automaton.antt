@@ -5,10 +5,6 @@ use Rattle.std.proofs.Math.Option.{Option, none, some}
 use Rattle.calculus.specs.Lists.{run as from}
 use Rattle.calculus.specs.Decimal.{numeral}
 use Rattle.rules.specs.Grammar.{Several, several, Term, variable, value, Goal, holds, fails, equal, Rule, rule, parted, variable_text, term_text, goal_text, head_text, written}
-pub mod Laws
-pub mod Spelling
-pub mod Reading
-pub mod Completion
 
 -- Where the reader stands, and what it has read: the head's variables, the goals that are complete, and of the goal being read whether it is denied, its
 -- relation or variable, its complete terms, whether an X stood before the number, and the number, where a digit of it has been read.

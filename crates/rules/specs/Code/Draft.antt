@@ -5,8 +5,6 @@ use Rattle.query.specs.Reading.{max_nodes, max_constants}
 use Rattle.rules.specs.declared.draft.Head.{Head}
 use Rattle.rules.specs.declared.draft.Body.{Body}
 use Rattle.rules.specs.Meaning.{place_in, max_terms, max_number}
-pub mod Laws
-pub mod Bounds
 
 -- ---- numbers
 

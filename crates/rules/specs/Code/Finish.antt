@@ -12,9 +12,6 @@ use Rattle.rules.specs.declared.draft.Body.{Body}
 use Rattle.rules.specs.Meaning.{max_terms}
 use Rattle.rules.specs.Reply.{max_bytes, refused}
 use Rattle.rules.specs.Code.Draft.{Nodes, add_word, onward}
-pub mod Testing
-pub mod Quantifiers
-pub mod Laws
 
 -- The bounds that the code's indices rest on.
 pub record Variables (h : Head) : Type 0 where

@@ -16,12 +16,6 @@ use Rattle.rules.specs.Meaning.{head, goals, term_variables, term_values, relati
 use Rattle.rules.specs.Code.Automaton.{State, start, letter, column_due, column, closed, colon, goal_due, denial_n, denial_no, denial_not, denial, relation, term_due, term, ended, subject, spaced, equals, other_due, other, done}
 use Rattle.rules.specs.Code.Draft.{capped, Small}
 use Rattle.rules.specs.Code.Scan.{Draft, Goals}
-pub mod Laws
-pub mod Columns
-pub mod Terms
-pub mod Nodes
-pub mod Complete
-pub mod Steps
 
 -- ---- the head
 

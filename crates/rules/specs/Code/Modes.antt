@@ -2,7 +2,6 @@
 use Rattle.std.specs.Prelude.{ℕ, Bool, true, cond, List, [], ◌∷◌, get_or, eqb}
 use Rattle.rules.specs.declared.mode.Mode.{Mode}
 use Rattle.rules.specs.declared.mode.Mode.TheVariants.{Out, Start, Letter, ColumnDue, Column, Closed, Colon, GoalDue, DenialN, DenialNo, DenialNot, Denial, Relation, TermDue, Term, Ended, Subject, Spaced, Equals, OtherDue, Other, Done}
-pub mod Laws
 
 -- The mode beside the first of these bytes that is b.
 abbrev pub picked : ℕ → List (ℕ × Mode) → Mode

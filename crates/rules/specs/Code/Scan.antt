@@ -7,7 +7,6 @@ use Rattle.rules.specs.declared.draft.Body.{Body}
 use Rattle.rules.specs.declared.scan.Reader.{Reader}
 use Rattle.rules.specs.Code.Modes.{next_mode, effect_of, suits}
 use Rattle.rules.specs.Code.Draft.{empty_head, empty_body, capped_more, put_column, body_of, put_term, put_relation, put_equality}
-pub mod Laws
 
 -- All that is kept of a rule beside its constants and nodes: where the reader stands, the head and the goals.
 pub record Draft : Type 0 where

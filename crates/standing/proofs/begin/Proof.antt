@@ -1,7 +1,7 @@
 -- `standing::begin` meets its contract: the store is judged, and where it is not refused the query read; the answer is that of the one that came last.
 use borrow.Author.Rules.{rules}
 use mathlib.Core.Path.{sym, ◌∙◌}
-use Rattle.standing.specs.Change.Laws.{begun-refused, begun-reading}
+use Rattle.standing.proofs.Theory.Change.Laws.{begun-refused, begun-reading}
 use Rattle.standing.proofs.begin.Statement.{statement}
 use Rattle.standing.proofs.begin.Tie as tie
 

@@ -3,7 +3,7 @@ use Rattle.standing.proofs.Maintaining.{few-numbers}
 use native.Mathlib.Omega.{arith}
 use borrow.Author.Rules.{rules}
 use mathlib.Core.Path.{sym}
-use Rattle.standing.specs.Change.Turn.{joined-past, left-past, joined-exceed, left-exceed, none-met}
+use Rattle.standing.proofs.Theory.Change.Turn.{joined-past, left-past, joined-exceed, left-exceed, none-met}
 use Rattle.standing.proofs.cause.Statement.{statement}
 use Rattle.standing.proofs.cause.Tie as tie
 

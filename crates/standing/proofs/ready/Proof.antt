@@ -10,9 +10,9 @@ use Rattle.tables.specs.declared.Store.{Store}
 use Rattle.query.specs.Reading.{formula, read_of, variables_in}
 use Rattle.answer.specs.Reply.{query_read}
 use Rattle.standing.specs.View.{QueryColumns, suits}
-use Rattle.standing.specs.View.Layout.{query-columns}
+use Rattle.standing.proofs.Theory.View.Layout.{query-columns}
 use Rattle.standing.specs.Change.{begin_checks}
-use Rattle.standing.specs.Change.Laws.{begun-cause, begun-is, begun-few, begun-columns, begun-variables, readied-refused, readied-suited, readied-unsuited}
+use Rattle.standing.proofs.Theory.Change.Laws.{begun-cause, begun-is, begun-few, begun-columns, begun-variables, readied-refused, readied-suited, readied-unsuited}
 use Rattle.standing.proofs.ready.Statement.{statement}
 use Rattle.standing.proofs.ready.Tie as tie
 

@@ -12,9 +12,9 @@ use Rattle.causes.specs.declared.Answer.TheVariants.{Done}
 use Rattle.query.specs.declared.Query.{Query}
 use Rattle.query.specs.Reading.{read_of, formula, columns_of}
 use Rattle.query.specs.Accepted.{Accepted}
-use Rattle.query.specs.Accepted.Laws.{reading-accepted, read-columns}
+use Rattle.query.proofs.Theory.Accepted.Laws.{reading-accepted, read-columns}
 use Rattle.verdict.specs.Verdict.{judged}
-use Rattle.verdict.specs.Verdict.Laws.{refused-with, verdict-done}
+use Rattle.verdict.proofs.Theory.Verdict.Laws.{refused-with, verdict-done}
 use Rattle.verdict.proofs.judge.Statement.{statement}
 use Rattle.verdict.proofs.judge.Tie as tie
 

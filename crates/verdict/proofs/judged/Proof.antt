@@ -10,14 +10,14 @@ use Rattle.calculus.specs.Sets.{In}
 use Rattle.calculus.specs.Generators.{columns}
 use Rattle.query.specs.declared.Query.{Query}
 use Rattle.query.specs.declared.Columns.{Columns}
-use Rattle.query.specs.Code.Free.Laws.{and-settled, and-left-to}
+use Rattle.query.proofs.Theory.Code.Free.Laws.{and-settled, and-left-to}
 use Rattle.query.specs.Reading.{max_columns, formula, columns_of, variables_in}
 use Rattle.verdict.specs.Code.Form.{IsAccepted, IsForm}
-use Rattle.verdict.specs.Form.Laws.{form_is}
+use Rattle.verdict.proofs.Theory.Form.Laws.{form_is}
 use Rattle.verdict.specs.Code.Generating.{plain_bits, missing_from}
-use Rattle.verdict.specs.Code.Generating.Sources.{plains_at}
+use Rattle.verdict.proofs.Theory.Code.Generating.Sources.{plains_at}
 use Rattle.verdict.specs.Verdict.{judged}
-use Rattle.verdict.specs.Verdict.Laws.{column-small, variables-read, reply, assembled}
+use Rattle.verdict.proofs.Theory.Verdict.Laws.{column-small, variables-read, reply, assembled}
 use Rattle.verdict.proofs.judged.Statement.{statement}
 use Rattle.verdict.proofs.judged.Tie as tie
 

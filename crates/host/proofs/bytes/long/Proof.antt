@@ -3,7 +3,7 @@ use Prim.Native.Nat.{◌+◌, ◌/◌, ◌%◌}
 use borrow.Author.Rules.{rules}
 use mathlib.Core.Path.{refl, ◌∙◌}
 use Rattle.query.specs.Packing.{word_bytes}
-use Rattle.query.specs.Code.Writing.Laws.{then-run}
+use Rattle.query.proofs.Theory.Code.Writing.Laws.{then-run}
 use Rattle.host.proofs.bytes.long.Statement.{statement}
 use Rattle.host.proofs.bytes.long.Tie as tie
 

@@ -8,8 +8,8 @@ use lib.ListN.{length, take, drop, set, length-append, length-drop, length-set}
 use lib.Seq.{length-take-le}
 use Rattle.lines.specs.Text.{spaced, line}
 use Rattle.query.specs.Code.Writing.{wrote}
-use Rattle.query.specs.Code.Writing.Laws.{wrote_then, wrote-byte, wrote-end, wrote-length}
-use Rattle.lines.specs.Text.Laws.{length-spaced}
+use Rattle.query.proofs.Theory.Code.Writing.Laws.{wrote_then, wrote-byte, wrote-end, wrote-length}
+use Rattle.lines.proofs.Theory.Text.Laws.{length-spaced}
 use Rattle.lines.proofs.text.line.Statement.{statement}
 use Rattle.lines.proofs.text.line.Tie as tie
 

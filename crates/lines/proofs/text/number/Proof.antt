@@ -8,7 +8,7 @@ use lib.ListN.{set, length-set}
 use Rattle.calculus.specs.Decimal.{digits}
 use Rattle.lines.specs.Text.{decimal}
 use Rattle.query.specs.Code.Writing.{wrote}
-use Rattle.query.specs.Code.Writing.Laws.{wrote_then, wrote-length}
+use Rattle.query.proofs.Theory.Code.Writing.Laws.{wrote_then, wrote-length}
 use Rattle.lines.proofs.text.number.Statement.{statement}
 use Rattle.lines.proofs.text.number.Tie as tie
 

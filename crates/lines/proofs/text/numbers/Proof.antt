@@ -9,8 +9,8 @@ use lib.ListN.{length, get_or, take, drop, length-drop}
 use lib.Seq.{take-suc, get_or-drop, length-take-le}
 use Rattle.lines.specs.Text.{decimal, spaced}
 use Rattle.query.specs.Code.Writing.{wrote}
-use Rattle.query.specs.Code.Writing.Laws.{wrote_none, wrote_then, wrote-end, wrote-length}
-use Rattle.lines.specs.Text.Laws.{length-spaced, spaced-append}
+use Rattle.query.proofs.Theory.Code.Writing.Laws.{wrote_none, wrote_then, wrote-end, wrote-length}
+use Rattle.lines.proofs.Theory.Text.Laws.{length-spaced, spaced-append}
 use Rattle.lines.proofs.text.numbers.Statement.{statement}
 use Rattle.lines.proofs.text.numbers.Tie as tie
 

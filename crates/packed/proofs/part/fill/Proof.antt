@@ -6,11 +6,11 @@ use borrow.Author.Rules.{rules}
 use mathlib.Core.Path.{◌≡◌, refl, sym, ap, ◌∙◌}
 use mathlib.Core.List.{List}
 use Rattle.calculus.specs.Lists.{tabulate}
-use Rattle.calculus.specs.Lists.Laws.{tabulate-next}
+use Rattle.calculus.proofs.Theory.Lists.Laws.{tabulate-next}
 use Rattle.tables.specs.declared.Changed.{Changed}
 use Rattle.tables.specs.declared.Record.{Record}
 use Rattle.tables.specs.Code.Fill.{collected, collect_all}
-use Rattle.tables.specs.Fill.Laws.{collect-last}
+use Rattle.tables.proofs.Theory.Fill.Laws.{collect-last}
 use Rattle.packed.specs.Packed.{record_at}
 use Rattle.packed.proofs.part.fill.Statement.{statement}
 use Rattle.packed.proofs.part.fill.Tie as tie

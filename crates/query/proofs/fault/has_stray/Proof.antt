@@ -3,8 +3,8 @@ use borrow.Author.Rules.{rules}
 use mathlib.Core.Path.{◌∙◌}
 use mathlib.Core.Bool.{or-false}
 use Rattle.query.specs.Nodes.{is_stray, term_count, terms}
-use Rattle.query.specs.Nodes.Laws.{terms-none}
-use Rattle.query.specs.Code.Fields.Laws.{some-tested, kind-read, kind-not-read}
+use Rattle.query.proofs.Theory.Nodes.Laws.{terms-none}
+use Rattle.query.proofs.Theory.Code.Fields.Laws.{some-tested, kind-read, kind-not-read}
 use Rattle.query.proofs.fault.has_stray.Statement.{statement}
 use Rattle.query.proofs.fault.has_stray.Tie as tie
 

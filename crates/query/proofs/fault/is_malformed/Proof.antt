@@ -5,9 +5,9 @@ use borrow.Author.Tests.{ne_eqb}
 use Prim.Native.Nat.{ℕ, ◌<◌}
 use mathlib.Core.Path.{sym, ap}
 use Rattle.query.specs.Nodes.{kind}
-use Rattle.query.specs.Nodes.Laws.{malformed-kind}
+use Rattle.query.proofs.Theory.Nodes.Laws.{malformed-kind}
 use Rattle.query.specs.Code.Fields.{NodeOf}
-use Rattle.query.specs.Code.Fields.Laws.{malformed-rest, kind-read, kind-not-read}
+use Rattle.query.proofs.Theory.Code.Fields.Laws.{malformed-rest, kind-read, kind-not-read}
 use Rattle.query.proofs.fault.is_malformed.Statement.{statement}
 use Rattle.query.proofs.fault.is_malformed.Tie as tie
 

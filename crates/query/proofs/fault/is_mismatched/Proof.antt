@@ -4,8 +4,8 @@ use borrow.Author.Tests.{ne_eqb}
 use mathlib.Core.Path.{sym, ◌∙◌}
 use lib.ListN.{get_or}
 use Rattle.query.specs.Nodes.{relation}
-use Rattle.query.specs.Nodes.Laws.{not-record}
-use Rattle.query.specs.Code.Fields.Laws.{kind-read, kind-not-read}
+use Rattle.query.proofs.Theory.Nodes.Laws.{not-record}
+use Rattle.query.proofs.Theory.Code.Fields.Laws.{kind-read, kind-not-read}
 use Rattle.query.proofs.fault.is_mismatched.Statement.{statement}
 use Rattle.query.proofs.fault.is_mismatched.Tie as tie
 

@@ -3,7 +3,7 @@ use native.Mathlib.Omega.{arith}
 use borrow.Author.Rules.{rules}
 use borrow.Author.Tests.{le-leb, lt-leb}
 use mathlib.Core.Bool.{or-false}
-use Rattle.query.specs.Code.Fields.Laws.{children-not-read, children-exists-read, children-two-read, children-none-read}
+use Rattle.query.proofs.Theory.Code.Fields.Laws.{children-not-read, children-exists-read, children-two-read, children-none-read}
 use Rattle.query.proofs.fault.reaches.Statement.{statement}
 use Rattle.query.proofs.fault.reaches.Tie as tie
 

@@ -5,7 +5,7 @@ use mathlib.Core.Path.{◌≡◌, sym}
 use mathlib.Core.Bool.{or-false}
 use mathlib.Core.List.{[], ◌∷◌}
 use lib.ListN.{drop_of_length-le}
-use Rattle.calculus.specs.Lists.Laws.{any-drop-at}
+use Rattle.calculus.proofs.Theory.Lists.Laws.{any-drop-at}
 use Rattle.query.specs.Nodes.{nonzero}
 use Rattle.query.proofs.fault.set_past.Statement.{statement}
 use Rattle.query.proofs.fault.set_past.Tie as tie

@@ -8,8 +8,8 @@ use mathlib.Core.Logic.{⊎_elim}
 use lib.ListN.{take}
 use Rattle.calculus.specs.Formula.{Fmla}
 use Rattle.query.specs.Decoding.{root}
-use Rattle.query.specs.Code.Free.Laws.{Found, found_as, found_none, found-few, found-missed, found-put, found-past, found_all}
-use Rattle.query.specs.Code.Free.Sets.{Left, left-all, left-next, left-found, left-missed}
+use Rattle.query.proofs.Theory.Code.Free.Laws.{Found, found_as, found_none, found-few, found-missed, found-put, found-past, found_all}
+use Rattle.query.proofs.Theory.Code.Free.Sets.{Left, left-all, left-next, left-found, left-missed}
 use Rattle.query.proofs.free.columns.Statement.{statement}
 use Rattle.query.proofs.free.columns.Tie as tie
 

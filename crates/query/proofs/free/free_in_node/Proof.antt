@@ -10,8 +10,8 @@ use lib.ListN.{get_or}
 use lib.Dec.{eqb}
 use Rattle.query.specs.Nodes.{kind, variable, equal_term, terms, term_count, left, right, under}
 use Rattle.query.specs.Code.Fields.{fields_of}
-use Rattle.query.specs.Code.Fields.Laws.{some-tested, kind-read, kind-two-read}
-use Rattle.query.specs.Code.Free.Laws.{free-of-kind, free-of-both, free-of-none, or-settled, or-left-to, and-settled, and-left-to}
+use Rattle.query.proofs.Theory.Code.Fields.Laws.{some-tested, kind-read, kind-two-read}
+use Rattle.query.proofs.Theory.Code.Free.Laws.{free-of-kind, free-of-both, free-of-none, or-settled, or-left-to, and-settled, and-left-to}
 use Rattle.query.proofs.free.free_in_node.Statement.{statement}
 use Rattle.query.proofs.free.free_in_node.Tie as tie
 

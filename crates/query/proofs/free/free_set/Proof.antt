@@ -4,7 +4,7 @@ use native.Mathlib.Omega.{arith}
 use borrow.Author.Rules.{rules}
 use mathlib.Core.Path.{◌≡◌, refl, subst}
 use lib.ListN.{length, length-set}
-use Rattle.query.specs.Code.Free.Sets.{Sets, sets-none, sets_more, sets-root}
+use Rattle.query.proofs.Theory.Code.Free.Sets.{Sets, sets-none, sets_more, sets-root}
 use Rattle.query.specs.Reading.{max_nodes}
 use Rattle.query.proofs.free.free_set.Statement.{statement}
 use Rattle.query.proofs.free.free_set.Tie as tie

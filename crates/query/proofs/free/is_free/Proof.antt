@@ -4,7 +4,7 @@ use native.Mathlib.Omega.{arith}
 use borrow.Author.Rules.{rules}
 use mathlib.Core.Path.{◌≡◌, refl, subst}
 use lib.ListN.{length, length-set}
-use Rattle.query.specs.Code.Free.Laws.{Marks, marks-none, marks-more, marks-root}
+use Rattle.query.proofs.Theory.Code.Free.Laws.{Marks, marks-none, marks-more, marks-root}
 use Rattle.query.specs.Reading.{max_nodes}
 use Rattle.query.proofs.free.is_free.Statement.{statement}
 use Rattle.query.proofs.free.is_free.Tie as tie

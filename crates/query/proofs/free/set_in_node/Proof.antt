@@ -9,9 +9,9 @@ use lib.ListN.{get_or}
 use mathlib.Core.Bool.{true}
 use Rattle.query.specs.Nodes.{kind}
 use Rattle.query.specs.Code.Fields.{fields_of}
-use Rattle.query.specs.Code.Fields.Laws.{kind-read, kind-two-read}
+use Rattle.query.proofs.Theory.Code.Fields.Laws.{kind-read, kind-two-read}
 use Rattle.query.specs.Code.Free.{term_bit, term_bits, without}
-use Rattle.query.specs.Code.Free.Sets.{set-of-record, set-of-equality, set-of-not, set-of-both, set-of-exists, set-of-none}
+use Rattle.query.proofs.Theory.Code.Free.Sets.{set-of-record, set-of-equality, set-of-not, set-of-both, set-of-exists, set-of-none}
 use Rattle.query.proofs.free.set_in_node.Statement.{statement}
 use Rattle.query.proofs.free.set_in_node.Tie as tie
 

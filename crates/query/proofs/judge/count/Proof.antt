@@ -7,8 +7,8 @@ use mathlib.Core.Logic.{◌≢◌}
 use mathlib.Core.List.{List, []}
 use lib.ListN.{length, get_or, set}
 use Rattle.query.specs.Nodes.{children}
-use Rattle.query.specs.Nodes.Laws.{one-more-fits, counted_none, counted-one, counted-two}
-use Rattle.query.specs.Code.Fields.Laws.{children-not-read, children-two-read, children-exists-read, children-none-read}
+use Rattle.query.proofs.Theory.Nodes.Laws.{one-more-fits, counted_none, counted-one, counted-two}
+use Rattle.query.proofs.Theory.Code.Fields.Laws.{children-not-read, children-two-read, children-exists-read, children-none-read}
 use Rattle.query.specs.Reading.{max_nodes}
 use Rattle.query.proofs.judge.count.Statement.{statement}
 use Rattle.query.proofs.judge.count.Tie as tie

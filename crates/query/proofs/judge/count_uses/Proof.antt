@@ -6,10 +6,10 @@ use mathlib.Core.Path.{◌≡◌, refl, ap, subst⁻¹, ◌∙◌}
 use mathlib.Core.List.{List}
 use lib.ListN.{length, get_or, take}
 use Rattle.calculus.specs.Lists.{tabulate}
-use Rattle.calculus.specs.Lists.Laws.{get_d_tabulate}
+use Rattle.calculus.proofs.Theory.Lists.Laws.{get_d_tabulate}
 use Rattle.query.specs.Nodes.{uses}
 use Rattle.query.specs.Code.Judging.{counted_with}
-use Rattle.query.specs.Nodes.Laws.{uses-fit, counted_next}
+use Rattle.query.proofs.Theory.Nodes.Laws.{uses-fit, counted_next}
 use Rattle.query.specs.Reading.{max_nodes}
 use Rattle.query.proofs.judge.count_uses.Statement.{statement}
 use Rattle.query.proofs.judge.count_uses.Tie as tie

@@ -12,7 +12,7 @@ use lib.Dec.{eqb, leb}
 use lib.Seq.{length-take-le, get_or-take}
 use Rattle.calculus.specs.Sets.{any_of}
 use Rattle.calculus.specs.Lists.{tabulate}
-use Rattle.calculus.specs.Lists.Laws.{get_d_tabulate}
+use Rattle.calculus.proofs.Theory.Lists.Laws.{get_d_tabulate}
 use Rattle.query.specs.Nodes.{children, uses, malformed, misplaced, strays, mismatched}
 use Rattle.query.specs.Reading.{max_nodes}
 use Rattle.query.proofs.judge.has_fault.Statement.{statement}

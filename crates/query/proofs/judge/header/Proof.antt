@@ -3,7 +3,7 @@ use borrow.Author.Rules.{rules}
 use mathlib.Core.Path.{◌≡◌, sym, ◌∙◌}
 use mathlib.Core.Bool.{true}
 use Rattle.causes.specs.Causes.{widths_fit}
-use Rattle.query.specs.Reading.Laws.{short, other-version, Counted, no-nodes, many-nodes, many-constants, other_length, all-passed}
+use Rattle.query.proofs.Theory.Reading.Laws.{short, other-version, Counted, no-nodes, many-nodes, many-constants, other_length, all-passed}
 use Rattle.query.proofs.judge.header.Statement.{statement}
 use Rattle.query.proofs.judge.header.Tie as tie
 

@@ -7,7 +7,7 @@ use mathlib.Core.Path.{◌≡◌, refl, sym, ap, ◌∙◌}
 use mathlib.Core.Bool.{Bool, true, false}
 use lib.ListN.{take}
 use Rattle.causes.specs.Causes.{clear, lowest}
-use Rattle.causes.specs.Causes.Laws.{lowest-next, lowest-met}
+use Rattle.causes.proofs.Theory.Causes.Laws.{lowest-next, lowest-met}
 use Rattle.query.specs.Code.Judging.{node_fault, found_at}
 use Rattle.query.proofs.judge.lowest_fault.Statement.{statement}
 use Rattle.query.proofs.judge.lowest_fault.Tie as tie

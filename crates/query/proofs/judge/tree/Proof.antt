@@ -7,7 +7,7 @@ use mathlib.Core.List.{List}
 use lib.ListN.{length, take}
 use lib.Seq.{length-take-le}
 use Rattle.causes.specs.Causes.{Finding, clear, met}
-use Rattle.query.specs.Reading.Laws.{fault, fault-met, fault-clear, tree-6, tree-7, tree-8, tree-9, tree-done}
+use Rattle.query.proofs.Theory.Reading.Laws.{fault, fault-met, fault-clear, tree-6, tree-7, tree-8, tree-9, tree-done}
 use Rattle.query.specs.Reading.{max_nodes}
 use Rattle.query.proofs.judge.tree.Statement.{statement}
 use Rattle.query.proofs.judge.tree.Tie as tie

@@ -1,7 +1,7 @@
 -- `query::node::rest` meets its contract, by the node's kind.
 use native.Mathlib.Omega.{arith}
 use mathlib.Core.Path.{sym}
-use Rattle.query.specs.Code.Fields.Laws.{rest-two, rest-none}
+use Rattle.query.proofs.Theory.Code.Fields.Laws.{rest-two, rest-none}
 use Rattle.query.proofs.node.rest.Statement.{statement}
 use Rattle.query.proofs.node.rest.Tie as tie
 

@@ -7,7 +7,7 @@ use mathlib.Core.Logic.{◌≢◌}
 use mathlib.Core.Bool.{false, or-false}
 use mathlib.Core.List.{[], ◌∷◌}
 use lib.Seq.{take_all}
-use Rattle.calculus.specs.Lists.Laws.{any-take-at}
+use Rattle.calculus.proofs.Theory.Lists.Laws.{any-take-at}
 use Rattle.query.specs.Code.Fields.{itself}
 use Rattle.query.proofs.node.some_of.Statement.{statement}
 use Rattle.query.proofs.node.some_of.Tie as tie

@@ -6,7 +6,7 @@ use mathlib.Core.Path.{◌≡◌, refl, ap, ◌∙◌}
 use mathlib.Core.List.{List, ◌++◌}
 use lib.ListN.{length, drop, set, length-set}
 use Rattle.calculus.specs.Lists.{tabulate}
-use Rattle.calculus.specs.Lists.Laws.{tabulate-fill}
+use Rattle.calculus.proofs.Theory.Lists.Laws.{tabulate-fill}
 use Rattle.query.specs.Reading.{word_at}
 use Rattle.query.proofs.unpack.words.Statement.{statement}
 use Rattle.query.proofs.unpack.words.Tie as tie

@@ -11,11 +11,11 @@ use lib.ListN.{length, length-set, length-append}
 use lib.Dec.{ltb}
 use borrow.Fn.Kinds.{In}
 use borrow.Fn.PlainCycle.{Measures, is, falls, and}
-use Rattle.calculus.specs.Reflects.Laws.{reflects-ltb, reflects-true, reflects-false}
+use Rattle.calculus.proofs.Theory.Reflects.Laws.{reflects-ltb, reflects-true, reflects-false}
 use Rattle.calculus.specs.Decimal.{digits}
-use Rattle.calculus.specs.Decimal.Laws.{length_digits}
+use Rattle.calculus.proofs.Theory.Decimal.Laws.{length_digits}
 use Rattle.query.specs.Code.Writing.{wrote}
-use Rattle.query.specs.Code.Writing.Laws.{wrote_none, wrote-byte, wrote-end, wrote-length}
+use Rattle.query.proofs.Theory.Code.Writing.Laws.{wrote_none, wrote-byte, wrote-end, wrote-length}
 use Rattle.query.proofs.write.digits.Reads as digits'
 use Rattle.query.proofs.write.digits.Kinds as digits-kinds
 use Rattle.query.proofs.write.+digits.Lts-digits as digits-lts

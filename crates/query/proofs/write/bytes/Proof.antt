@@ -8,7 +8,7 @@ use mathlib.Core.List.{List}
 use lib.ListN.{length, get_or, take, set, length-set}
 use lib.Seq.{take-suc, take-length}
 use Rattle.query.specs.Code.Writing.{wrote}
-use Rattle.query.specs.Code.Writing.Laws.{wrote-byte}
+use Rattle.query.proofs.Theory.Code.Writing.Laws.{wrote-byte}
 use Rattle.query.proofs.write.bytes.Statement.{statement}
 use Rattle.query.proofs.write.bytes.Tie as tie
 

@@ -12,7 +12,7 @@ use Rattle.query.specs.declared.Query.{Query}
 use Rattle.query.specs.Reading.{max_nodes, pool, nodes_in}
 use Rattle.query.specs.Packing.{word_bytes, header_bytes, packed_bytes}
 use Rattle.query.specs.Code.Writing.{overlay}
-use Rattle.query.specs.Code.Writing.Laws.{length-overlay, then-run, length-word-bytes}
+use Rattle.query.proofs.Theory.Code.Writing.Laws.{length-overlay, then-run, length-word-bytes}
 use Rattle.query.proofs.write.query.Statement.{statement}
 use Rattle.query.proofs.write.query.Tie as tie
 

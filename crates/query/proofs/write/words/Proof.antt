@@ -7,7 +7,7 @@ use lib.ListN.{length, get_or, take}
 use Rattle.calculus.specs.Sets.{union_of}
 use Rattle.query.specs.Packing.{word_bytes}
 use Rattle.query.specs.Code.Writing.{overlay}
-use Rattle.query.specs.Code.Writing.Laws.{length-overlay, then-run, next_word, length-word-bytes}
+use Rattle.query.proofs.Theory.Code.Writing.Laws.{length-overlay, then-run, next_word, length-word-bytes}
 use Rattle.query.proofs.write.words.Statement.{statement}
 use Rattle.query.proofs.write.words.Tie as tie
 

@@ -2,7 +2,7 @@
 use native.Mathlib.Omega.{arith}
 use borrow.Author.Rules.{rules}
 use Rattle.rules.specs.Code.Draft.{add_word, deny_goal, join_goal, onward}
-use Rattle.rules.specs.Code.Draft.Laws.{onward-full, onward-goes, added-one, denied-no-fewer}
+use Rattle.rules.proofs.Theory.Code.Draft.Laws.{onward-full, onward-goes, added-one, denied-no-fewer}
 use mathlib.Core.Path.{◌≡◌}
 use Prim.Native.Nat.{◌+◌, ◌≤◌}
 use Rattle.rules.proofs.draft.append.Statement.{statement}

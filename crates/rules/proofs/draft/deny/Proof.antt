@@ -1,6 +1,6 @@
 -- `rules::draft::deny` meets its contract, by its test.
 use borrow.Author.Rules.{rules}
-use Rattle.rules.specs.Code.Draft.Laws.{deny-made}
+use Rattle.rules.proofs.Theory.Code.Draft.Laws.{deny-made}
 use Rattle.rules.proofs.draft.deny.Statement.{statement}
 use Rattle.rules.proofs.draft.deny.Tie as tie
 

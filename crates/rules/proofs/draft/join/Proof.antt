@@ -1,6 +1,6 @@
 -- `rules::draft::join` meets its contract, by its test.
 use borrow.Author.Rules.{rules}
-use Rattle.rules.specs.Code.Draft.Laws.{join-made}
+use Rattle.rules.proofs.Theory.Code.Draft.Laws.{join-made}
 use borrow.Author.Tests.{eq-eqb}
 use Rattle.rules.proofs.draft.join.Statement.{statement}
 use Rattle.rules.proofs.draft.join.Tie as tie

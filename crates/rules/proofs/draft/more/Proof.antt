@@ -3,7 +3,7 @@ use native.Mathlib.Omega.{arith}
 use borrow.Author.Rules.{rules}
 use Prim.Native.Nat.{◌+◌, ◌*◌}
 use mathlib.Core.Path.{sym}
-use Rattle.rules.specs.Code.Draft.Laws.{capped-past, capped-within}
+use Rattle.rules.proofs.Theory.Code.Draft.Laws.{capped-past, capped-within}
 use Rattle.rules.proofs.draft.more.Statement.{statement}
 use Rattle.rules.proofs.draft.more.Tie as tie
 

@@ -6,7 +6,7 @@ use mathlib.Core.Path.{◌≡◌, sym, ◌∙◌}
 use mathlib.Core.List.{List}
 use lib.ListN.{length, get_or, take}
 use lib.Seq.{length-take-le, get_or-take}
-use Rattle.rules.specs.Code.Draft.Laws.{PlaceFrom, place_here, place-on, place-ends}
+use Rattle.rules.proofs.Theory.Code.Draft.Laws.{PlaceFrom, place_here, place-on, place-ends}
 use Rattle.rules.proofs.draft.place.Statement.{statement}
 use Rattle.rules.proofs.draft.place.Tie as tie
 

@@ -1,6 +1,6 @@
 -- `rules::draft::settle` meets its contract: the goal has room or not.
 use borrow.Author.Rules.{rules}
-use Rattle.rules.specs.Code.Draft.Laws.{settled-full, settled-done}
+use Rattle.rules.proofs.Theory.Code.Draft.Laws.{settled-full, settled-done}
 use Rattle.rules.proofs.draft.settle.Statement.{statement}
 use Rattle.rules.proofs.draft.settle.Tie as tie
 

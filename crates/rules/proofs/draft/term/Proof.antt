@@ -1,7 +1,7 @@
 -- `rules::draft::term` meets its contract, by its tests.
 use borrow.Author.Rules.{rules}
 use borrow.Author.Tests.{le-leb}
-use Rattle.rules.specs.Code.Draft.Laws.{term-variable, term-constant}
+use Rattle.rules.proofs.Theory.Code.Draft.Laws.{term-variable, term-constant}
 use Rattle.rules.proofs.draft.term.Statement.{statement}
 use Rattle.rules.proofs.draft.term.Tie as tie
 

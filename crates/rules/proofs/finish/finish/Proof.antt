@@ -1,6 +1,6 @@
 -- `rules::finish::finish` meets its contract, by its tests.
 use borrow.Author.Rules.{rules}
-use Rattle.rules.specs.Code.Finish.Testing.{ends-head, ends-body, ends-missing, ends-full, ends-packed}
+use Rattle.rules.proofs.Theory.Code.Finish.Testing.{ends-head, ends-body, ends-missing, ends-full, ends-packed}
 use Rattle.rules.proofs.finish.finish.Statement.{statement}
 use Rattle.rules.proofs.finish.finish.Tie as tie
 

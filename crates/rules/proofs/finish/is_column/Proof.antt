@@ -3,7 +3,7 @@ use borrow.Author.Rules.{rules}
 use mathlib.Core.Path.{◌≡◌, ◌∙◌}
 use lib.ListN.{length}
 use lib.Dec.{eqb}
-use Rattle.rules.specs.Code.Finish.Testing.{four-tested}
+use Rattle.rules.proofs.Theory.Code.Finish.Testing.{four-tested}
 use Rattle.rules.proofs.finish.is_column.Statement.{statement}
 use Rattle.rules.proofs.finish.is_column.Tie as tie
 

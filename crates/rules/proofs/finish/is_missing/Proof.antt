@@ -3,7 +3,7 @@ use borrow.Author.Rules.{rules}
 use mathlib.Core.Path.{◌≡◌, ◌∙◌}
 use mathlib.Core.Bool.{false, not}
 use lib.ListN.{length, get_or}
-use Rattle.rules.specs.Code.Finish.Testing.{four-tested}
+use Rattle.rules.proofs.Theory.Code.Finish.Testing.{four-tested}
 use Rattle.rules.proofs.finish.is_missing.Statement.{statement}
 use Rattle.rules.proofs.finish.is_missing.Tie as tie
 

@@ -2,7 +2,7 @@
 use borrow.Author.Rules.{rules}
 use mathlib.Core.Path.{ap}
 use mathlib.Core.Bool.{not}
-use Rattle.rules.specs.Code.Finish.Testing.{bound-unseen, bound-seen}
+use Rattle.rules.proofs.Theory.Code.Finish.Testing.{bound-unseen, bound-seen}
 use Rattle.rules.proofs.finish.needs_exists.Statement.{statement}
 use Rattle.rules.proofs.finish.needs_exists.Tie as tie
 

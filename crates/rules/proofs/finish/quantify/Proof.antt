@@ -3,9 +3,9 @@ use native.Mathlib.Omega.{arith}
 use borrow.Author.Rules.{rules}
 use Prim.Native.Nat.{◌-◌, ◌≤◌}
 use mathlib.Core.Path.{◌≡◌, refl, sym, ap, ◌∙◌}
-use Rattle.rules.specs.Code.Draft.Laws.{added-one}
+use Rattle.rules.proofs.Theory.Code.Draft.Laws.{added-one}
 use Rattle.rules.specs.Code.Finish.{is_bound, bound_down, bind_all}
-use Rattle.rules.specs.Code.Finish.Testing.{bound-one, bound-none, bind-full, bind_goes}
+use Rattle.rules.proofs.Theory.Code.Finish.Testing.{bound-one, bound-none, bind-full, bind_goes}
 use Rattle.rules.proofs.finish.quantify.Statement.{statement}
 use Rattle.rules.proofs.finish.quantify.Tie as tie
 

@@ -1,7 +1,7 @@
 -- `rules::mode::suits` meets its contract, by the effect.
 use native.Mathlib.Omega.{arith}
 use mathlib.Core.Path.{sym}
-use Rattle.rules.specs.Code.Modes.Laws.{suits-other}
+use Rattle.rules.proofs.Theory.Code.Modes.Laws.{suits-other}
 use Rattle.rules.proofs.mode.suits.Statement.{statement}
 use Rattle.rules.proofs.mode.suits.Tie as tie
 

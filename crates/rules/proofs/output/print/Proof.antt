@@ -5,10 +5,10 @@ use borrow.Author.Rules.{rules}
 use mathlib.Core.Path.{◌≡◌, sym}
 use lib.ListN.{length, take}
 use lib.Seq.{length-take-le}
-use Rattle.query.specs.Code.Writing.Laws.{wrote-end}
+use Rattle.query.proofs.Theory.Code.Writing.Laws.{wrote-end}
 use Rattle.rules.specs.Reply.{max_bytes}
-use Rattle.rules.specs.Reply.Laws.{reply-short}
-use Rattle.rules.specs.Output.Laws.{printed-refused, printed-packed}
+use Rattle.rules.proofs.Theory.Reply.Laws.{reply-short}
+use Rattle.rules.proofs.Theory.Output.Laws.{printed-refused, printed-packed}
 use Rattle.rules.proofs.output.print.Statement.{statement}
 use Rattle.rules.proofs.output.print.Tie as tie
 

@@ -6,11 +6,11 @@ use mathlib.Core.Path.{◌≡◌, ap, ◌∙◌}
 use mathlib.Core.List.{List, [], ◌∷◌, ◌++◌}
 use lib.ListN.{length, set, length-set, length-append}
 use Rattle.calculus.specs.Decimal.{digits}
-use Rattle.calculus.specs.Decimal.Laws.{length_digits}
+use Rattle.calculus.proofs.Theory.Decimal.Laws.{length_digits}
 use Rattle.query.specs.Code.Writing.{wrote}
-use Rattle.query.specs.Code.Writing.Laws.{wrote_then, wrote-byte, wrote-end, wrote-length}
+use Rattle.query.proofs.Theory.Code.Writing.Laws.{wrote_then, wrote-byte, wrote-end, wrote-length}
 use Rattle.rules.specs.Output.{word_refused, refusal_line}
-use Rattle.rules.specs.Output.Laws.{line_front, line-digits}
+use Rattle.rules.proofs.Theory.Output.Laws.{line_front, line-digits}
 use Rattle.rules.proofs.output.refusal.Statement.{statement}
 use Rattle.rules.proofs.output.refusal.Tie as tie
 

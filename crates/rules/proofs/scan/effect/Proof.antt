@@ -2,7 +2,7 @@
 use borrow.Author.Rules.{rules}
 use mathlib.Core.Path.{◌∙◌}
 use Rattle.rules.specs.Code.Modes.{effect_of}
-use Rattle.rules.specs.Code.Scan.Laws.{byte-below, byte_above, byte-digit}
+use Rattle.rules.proofs.Theory.Code.Scan.Laws.{byte-below, byte_above, byte-digit}
 use Rattle.rules.proofs.scan.effect.Statement.{statement}
 use Rattle.rules.proofs.scan.effect.Tie as tie
 

@@ -5,8 +5,8 @@ use mathlib.Core.Path.{◌≡◌, sym, ap, subst}
 use mathlib.Core.List.{List}
 use Rattle.rules.specs.declared.draft.Body.{Body}
 use Rattle.rules.specs.Code.Draft.{Small, put_term}
-use Rattle.rules.specs.Code.Draft.Bounds.{small-term}
-use Rattle.rules.specs.Code.Scan.Laws.{step_other, step-within, step-term, step-relation, step-equality}
+use Rattle.rules.proofs.Theory.Code.Draft.Bounds.{small-term}
+use Rattle.rules.proofs.Theory.Code.Scan.Laws.{step_other, step-within, step-term, step-relation, step-equality}
 use Rattle.rules.proofs.scan.goals.Statement.{statement}
 use Rattle.rules.proofs.scan.goals.Tie as tie
 

@@ -2,7 +2,7 @@
 use borrow.Author.Rules.{rules}
 use mathlib.Core.Path.{◌∙◌}
 use Rattle.rules.specs.Code.Scan.{turn_reader, digit_reader}
-use Rattle.rules.specs.Code.Scan.Laws.{byte-below, byte_above, byte-digit}
+use Rattle.rules.proofs.Theory.Code.Scan.Laws.{byte-below, byte_above, byte-digit}
 use Rattle.rules.proofs.scan.step.Statement.{statement}
 use Rattle.rules.proofs.scan.step.Tie as tie
 

@@ -1,7 +1,7 @@
 -- `rules::scan::turn_mode` meets its contract, by its test.
 use borrow.Author.Rules.{rules}
 use mathlib.Core.Path.{◌∙◌}
-use Rattle.rules.specs.Code.Scan.Laws.{turn-out, turn-goes}
+use Rattle.rules.proofs.Theory.Code.Scan.Laws.{turn-out, turn-goes}
 use Rattle.rules.proofs.scan.turn_mode.Statement.{statement}
 use Rattle.rules.proofs.scan.turn_mode.Tie as tie
 

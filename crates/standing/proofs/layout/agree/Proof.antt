@@ -3,7 +3,7 @@ use borrow.Author.Rules.{rules}
 use mathlib.Core.Path.{◌≡◌, ap}
 use lib.ListN.{length, get_or}
 use Rattle.calculus.specs.Reflects.{fails}
-use Rattle.calculus.specs.Reflects.Laws.{reflects-map, reflects-eqb}
+use Rattle.calculus.proofs.Theory.Reflects.Laws.{reflects-map, reflects-eqb}
 use Rattle.query.specs.declared.Columns.{Columns}
 use Rattle.standing.proofs.Judging.{columns-same}
 use Rattle.standing.proofs.layout.agree.Statement.{statement}

@@ -6,10 +6,10 @@ use mathlib.Core.Path.{ap}
 use mathlib.Core.Bool.{not}
 use mathlib.Core.List.{[]}
 use lib.ListN.{take}
-use Rattle.calculus.specs.Order.Laws.{AscendsFrom, ascends-starts, ascends-ends, ascends-stops, ascends-goes}
+use Rattle.calculus.proofs.Theory.Order.Laws.{AscendsFrom, ascends-starts, ascends-ends, ascends-stops, ascends-goes}
 use Rattle.calculus.specs.Rows.{row_below}
 use Rattle.standing.specs.View.{row_at, row_places}
-use Rattle.standing.specs.View.Layout.{length-first, getD-first}
+use Rattle.standing.proofs.Theory.View.Layout.{length-first, getD-first}
 use Rattle.standing.proofs.layout.all_ascend.Statement.{statement}
 use Rattle.standing.proofs.layout.all_ascend.Tie as tie
 

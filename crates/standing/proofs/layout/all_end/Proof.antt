@@ -8,8 +8,8 @@ use mathlib.Core.List.{[]}
 use lib.ListN.{get_or, take, drop}
 use Rattle.calculus.specs.Sets.{all_of}
 use Rattle.standing.specs.View.{row_places, ends}
-use Rattle.standing.specs.View.Layout.{length-first, getD-first}
-use Rattle.calculus.specs.Lists.Laws.{tested, all-stops, all-goes, all-ends}
+use Rattle.standing.proofs.Theory.View.Layout.{length-first, getD-first}
+use Rattle.calculus.proofs.Theory.Lists.Laws.{tested, all-stops, all-goes, all-ends}
 use Rattle.standing.proofs.layout.all_end.Statement.{statement}
 use Rattle.standing.proofs.layout.all_end.Tie as tie
 

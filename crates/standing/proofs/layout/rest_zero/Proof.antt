@@ -8,8 +8,8 @@ use mathlib.Core.List.{[]}
 use lib.ListN.{get_or, drop}
 use Rattle.calculus.specs.Sets.{all_of}
 use Rattle.standing.specs.View.{max_rows, row_places, ends}
-use Rattle.standing.specs.View.Laws.{length-row_places, getD-row_places}
-use Rattle.calculus.specs.Lists.Laws.{tested, all-stops, all-goes, all-ends}
+use Rattle.standing.proofs.Theory.View.Laws.{length-row_places, getD-row_places}
+use Rattle.calculus.proofs.Theory.Lists.Laws.{tested, all-stops, all-goes, all-ends}
 use Rattle.standing.proofs.layout.rest_zero.Statement.{statement}
 use Rattle.standing.proofs.layout.rest_zero.Tie as tie
 

@@ -7,14 +7,14 @@ use mathlib.Core.Logic.{⊎_elim}
 use mathlib.Core.Bool.{true, false, ◌&&◌}
 use lib.ListN.{length}
 use lib.Dec.{ltb}
-use Rattle.calculus.specs.Reflects.Laws.{confirmed-by, refuted}
+use Rattle.calculus.proofs.Theory.Reflects.Laws.{confirmed-by, refuted}
 use Rattle.calculus.specs.Sets.{all_of}
 use Rattle.calculus.specs.Order.{is-ascending}
 use Rattle.calculus.specs.Rows.{row_below}
 use Rattle.query.specs.declared.Columns.{Columns}
 use Rattle.standing.specs.declared.View.{View}
 use Rattle.standing.specs.View.{ends, held_rows, unused_places}
-use Rattle.standing.specs.View.Layout.{suits-other, suits-many, suits-unended, suits-unordered, suits-full, suits-marked, suits-balanced}
+use Rattle.standing.proofs.Theory.View.Layout.{suits-other, suits-many, suits-unended, suits-unordered, suits-full, suits-marked, suits-balanced}
 use Rattle.standing.proofs.layout.suits.Statement.{statement}
 use Rattle.standing.proofs.layout.suits.Tie as tie
 

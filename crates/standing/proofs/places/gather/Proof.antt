@@ -6,7 +6,7 @@ use borrow.Author.Rules.{rules}
 use mathlib.Core.Path.{◌≡◌, refl, sym, ap, ◌∙◌}
 use lib.ListN.{length}
 use Rattle.standing.specs.Change.{fronted}
-use Rattle.answer.specs.Code.Listing.Cut.{position-next, position-within}
+use Rattle.answer.proofs.Theory.Code.Listing.Cut.{position-next, position-within}
 use Rattle.standing.proofs.Carrying.{first_rows, position-small, gather-next}
 use Rattle.standing.proofs.places.gather.Statement.{statement}
 use Rattle.standing.proofs.places.gather.Tie as tie

@@ -10,7 +10,7 @@ use Rattle.calculus.specs.Sets.{any_of, same_list}
 use Rattle.calculus.specs.Rows.{Row}
 use Rattle.standing.specs.View.{max_rows, row_at, row_places, stored}
 use Rattle.standing.specs.Code.View.{rows_with, Passed}
-use Rattle.calculus.specs.Lists.Laws.{tested}
+use Rattle.calculus.proofs.Theory.Lists.Laws.{tested}
 use Rattle.standing.proofs.Walking.{passed_on, found, found_none, found-sizes, found-without, found-written}
 use Rattle.standing.proofs.places.only_in.Statement.{statement}
 use Rattle.standing.proofs.places.only_in.Tie as tie

@@ -10,8 +10,8 @@ use lib.Dec.{T}
 use Rattle.calculus.specs.Rows.{Row, row_below}
 use Rattle.standing.specs.View.{row_places}
 use Rattle.standing.specs.Code.View.{values_of, Passed}
-use Rattle.standing.specs.View.Layout.{length-first, getD-first}
-use Rattle.calculus.specs.Lists.Laws.{tested}
+use Rattle.standing.proofs.Theory.View.Layout.{length-first, getD-first}
+use Rattle.calculus.proofs.Theory.Lists.Laws.{tested}
 use Rattle.standing.proofs.Walking.{passed-next}
 use Rattle.standing.proofs.places.skip.Statement.{statement}
 use Rattle.standing.proofs.places.skip.Tie as tie

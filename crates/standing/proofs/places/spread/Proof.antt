@@ -6,9 +6,9 @@ use borrow.Author.Rules.{rules}
 use mathlib.Core.Path.{◌≡◌, sym, ap, ◌∙◌}
 use lib.ListN.{length, length-replicate}
 use Rattle.answer.specs.Code.Listing.{cut}
-use Rattle.answer.specs.Code.Listing.Cut.{position-next, position-within}
+use Rattle.answer.proofs.Theory.Code.Listing.Cut.{position-next, position-within}
 use Rattle.standing.specs.View.{max_rows, stored}
-use Rattle.standing.specs.View.Laws.{stored-none}
+use Rattle.standing.proofs.Theory.View.Laws.{stored-none}
 use Rattle.standing.proofs.Carrying.{position-small, spread-next}
 use Rattle.standing.proofs.places.spread.Statement.{statement}
 use Rattle.standing.proofs.places.spread.Tie as tie

@@ -1,5 +1,5 @@
 -- `standing::row::below` meets its contract: each test that fails leaves the order to the values after it.
-use Rattle.calculus.specs.Order.Laws.{below-at-first, below-at-second, below-at-third, below-at-fourth}
+use Rattle.calculus.proofs.Theory.Order.Laws.{below-at-first, below-at-second, below-at-third, below-at-fourth}
 use Rattle.standing.proofs.row.below.Statement.{statement}
 use Rattle.standing.proofs.row.below.Tie as tie
 

@@ -1,5 +1,5 @@
 -- `standing::row::same` meets its contract: each test that fails leaves sameness to the values after it.
-use Rattle.calculus.specs.Order.Laws.{same-at-first, same-at-second, same-at-third, same-at-fourth}
+use Rattle.calculus.proofs.Theory.Order.Laws.{same-at-first, same-at-second, same-at-third, same-at-fourth}
 use Rattle.standing.proofs.row.same.Statement.{statement}
 use Rattle.standing.proofs.row.same.Tie as tie
 

@@ -6,8 +6,8 @@ use mathlib.Core.Path.{◌≡◌, sym, ◌∙◌}
 use mathlib.Core.Bool.{true}
 use Rattle.tables.specs.Records.{fits}
 use Rattle.tables.specs.Store.{held}
-use Rattle.tables.specs.Store.Laws.{length-held}
-use Rattle.tables.specs.Change.Laws.{rank-found}
+use Rattle.tables.proofs.Theory.Store.Laws.{length-held}
+use Rattle.tables.proofs.Theory.Change.Laws.{rank-found}
 use Rattle.tables.proofs.Laws.{spot-fits, spot-place, spot-held, deletion-unfit, deletion-none, deletion-done}
 use Rattle.tables.proofs.change.delete.Statement.{statement}
 use Rattle.tables.proofs.change.delete.Tie as tie

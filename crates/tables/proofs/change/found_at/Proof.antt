@@ -5,8 +5,8 @@ use mathlib.Core.Path.{sym, ◌∙◌}
 use lib.ListN.{take}
 use Rattle.tables.specs.Records.{same_record}
 use Rattle.tables.specs.Store.{places}
-use Rattle.tables.specs.Store.Places.{length-first, getD-first}
-use Rattle.calculus.specs.Lists.Laws.{tested}
+use Rattle.tables.proofs.Theory.Store.Places.{length-first, getD-first}
+use Rattle.calculus.proofs.Theory.Lists.Laws.{tested}
 use Rattle.tables.proofs.Laws.{found_none, found-place}
 use Rattle.tables.proofs.change.found_at.Statement.{statement}
 use Rattle.tables.proofs.change.found_at.Tie as tie

@@ -6,9 +6,9 @@ use mathlib.Core.Path.{◌≡◌, sym, ◌∙◌}
 use mathlib.Core.Bool.{true, false}
 use Rattle.tables.specs.Records.{fits}
 use Rattle.tables.specs.Store.{held}
-use Rattle.tables.specs.Store.Laws.{length-held}
+use Rattle.tables.proofs.Theory.Store.Laws.{length-held}
 use Rattle.tables.specs.Code.Change.{found}
-use Rattle.tables.specs.Change.Laws.{rank-le}
+use Rattle.tables.proofs.Theory.Change.Laws.{rank-le}
 use Rattle.tables.proofs.Laws.{spot-fits, spot-place, spot-held, count-full, count_room, insertion-unfit, insertion-held, insertion-full, insertion-done}
 use Rattle.tables.proofs.change.insert.Statement.{statement}
 use Rattle.tables.proofs.change.insert.Tie as tie

@@ -6,7 +6,7 @@ use mathlib.Core.Path.{◌≡◌, refl, ◌∙◌}
 use lib.ListN.{length}
 use Rattle.tables.specs.Records.{blank}
 use Rattle.tables.specs.Store.{capacity, places, places_of}
-use Rattle.tables.specs.Store.Places.{remove-at}
+use Rattle.tables.proofs.Theory.Store.Places.{remove-at}
 use Rattle.tables.specs.Code.Change.{lowered}
 use Rattle.tables.proofs.Laws.{written, lower-turn, lower-end, store_is}
 use Rattle.tables.proofs.change.lower.Statement.{statement}

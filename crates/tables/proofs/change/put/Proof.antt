@@ -1,11 +1,11 @@
 -- `tables::change::put` meets its contract: for a store in the layout the insertion, by place, is the put.
 use borrow.Author.Rules.{rules}
 use mathlib.Core.Path.{◌≡◌, sym, ◌∙◌}
-use Rattle.calculus.specs.Reflects.Laws.{reflected}
+use Rattle.calculus.proofs.Theory.Reflects.Laws.{reflected}
 use Rattle.causes.specs.declared.Answer.TheVariants.{Done}
 use Rattle.tables.specs.Store.{judgement}
-use Rattle.tables.specs.Store.Laws.{reflects-layout, judged-layout}
-use Rattle.tables.specs.Change.Laws.{put-judged, insertion-put}
+use Rattle.tables.proofs.Theory.Store.Laws.{reflects-layout, judged-layout}
+use Rattle.tables.proofs.Theory.Change.Laws.{put-judged, insertion-put}
 use Rattle.tables.proofs.change.put.Statement.{statement}
 use Rattle.tables.proofs.change.put.Tie as tie
 

@@ -5,7 +5,7 @@ use borrow.Author.Rules.{rules}
 use mathlib.Core.Path.{◌≡◌, refl, ◌∙◌}
 use lib.ListN.{length}
 use Rattle.tables.specs.Store.{capacity, places, places_of}
-use Rattle.tables.specs.Store.Places.{insert-at}
+use Rattle.tables.proofs.Theory.Store.Places.{insert-at}
 use Rattle.tables.specs.Code.Change.{raised}
 use Rattle.tables.proofs.Laws.{written, raise-turn, raise-end, store_is}
 use Rattle.tables.proofs.change.raise.Statement.{statement}

@@ -7,9 +7,9 @@ use mathlib.Core.Path.{◌≡◌, sym, ◌∙◌}
 use lib.ListN.{take, drop}
 use Rattle.tables.specs.Records.{record_below}
 use Rattle.tables.specs.Store.{places}
-use Rattle.tables.specs.Store.Places.{length-first, getD-first}
+use Rattle.tables.proofs.Theory.Store.Places.{length-first, getD-first}
 use Rattle.tables.specs.Change.{rank}
-use Rattle.calculus.specs.Lists.Laws.{tested}
+use Rattle.calculus.proofs.Theory.Lists.Laws.{tested}
 use Rattle.tables.proofs.Laws.{rank-stops, rank-goes, rank-ends}
 use Rattle.tables.proofs.change.rank_of.Statement.{statement}
 use Rattle.tables.proofs.change.rank_of.Tie as tie

@@ -1,11 +1,11 @@
 -- `tables::change::remove` meets its contract: for a store in the layout the deletion, by place, is the removal.
 use borrow.Author.Rules.{rules}
 use mathlib.Core.Path.{◌≡◌, sym, ◌∙◌}
-use Rattle.calculus.specs.Reflects.Laws.{reflected}
+use Rattle.calculus.proofs.Theory.Reflects.Laws.{reflected}
 use Rattle.causes.specs.declared.Answer.TheVariants.{Done}
 use Rattle.tables.specs.Store.{judgement}
-use Rattle.tables.specs.Store.Laws.{reflects-layout, judged-layout}
-use Rattle.tables.specs.Change.Laws.{removal-judged, deletion-removal}
+use Rattle.tables.proofs.Theory.Store.Laws.{reflects-layout, judged-layout}
+use Rattle.tables.proofs.Theory.Change.Laws.{removal-judged, deletion-removal}
 use Rattle.tables.proofs.change.remove.Statement.{statement}
 use Rattle.tables.proofs.change.remove.Tie as tie
 

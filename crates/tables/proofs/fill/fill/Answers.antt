@@ -2,7 +2,7 @@
 use Rattle.std.proofs.Common.{get_or, arith, ap, ◌∙◌}
 use Rattle.tables.specs.Records.{blank}
 use Rattle.tables.specs.Code.Fill.{beginning, collected}
-use Rattle.tables.specs.Fill.Laws.{fill-collects, collect-more, collect-done}
+use Rattle.tables.proofs.Theory.Fill.Laws.{fill-collects, collect-more, collect-done}
 use Rattle.tables.proofs.fill.fill.Goals as goal
 
 pub loop-i-preserved : goal.loop-i-preserved

@@ -10,7 +10,7 @@ use lib.ListN.{length, get_or, take}
 use Rattle.tables.specs.declared.Record.{Record}
 use Rattle.tables.specs.Records.{blank, fits}
 use Rattle.tables.specs.Store.{record_at, places}
-use Rattle.tables.specs.Store.Places.{length-first, getD-first}
+use Rattle.tables.proofs.Theory.Store.Places.{length-first, getD-first}
 use Rattle.tables.proofs.Runs.{Entered, entered-start, entered-low, entered-unfit, entered-next, entered-end, fits-relation}
 use Rattle.tables.proofs.layout.is_orderly.Statement.{statement}
 use Rattle.tables.proofs.layout.is_orderly.Tie as tie

@@ -8,8 +8,8 @@ use lib.ListN.{drop}
 use Rattle.calculus.specs.Sets.{all_of}
 use Rattle.tables.specs.Records.{blank, is_blank}
 use Rattle.tables.specs.Store.{capacity, places}
-use Rattle.tables.specs.Store.Laws.{length-places, getD-places}
-use Rattle.calculus.specs.Lists.Laws.{tested, all-stops, all-goes, all-ends}
+use Rattle.tables.proofs.Theory.Store.Laws.{length-places, getD-places}
+use Rattle.calculus.proofs.Theory.Lists.Laws.{tested, all-stops, all-goes, all-ends}
 use Rattle.tables.proofs.layout.rest_blank.Statement.{statement}
 use Rattle.tables.proofs.layout.rest_blank.Tie as tie
 

@@ -6,10 +6,10 @@ use mathlib.Core.List.{List, [], ◌∷◌}
 use mathlib.Core.Path.{◌≡◌, refl, ap, sym, ◌∙◌}
 use lib.ListN.{get_or}
 use Rattle.calculus.specs.Lists.{tabulate}
-use Rattle.calculus.specs.Lists.Laws.{get_d_tabulate}
+use Rattle.calculus.proofs.Theory.Lists.Laws.{get_d_tabulate}
 use Rattle.query.specs.Reading.{max_nodes}
 use Rattle.verdict.specs.Bits.{node_mask}
-use Rattle.verdict.specs.Bits.Laws.{mask_one, mask-past}
+use Rattle.verdict.proofs.Theory.Bits.Laws.{mask_one, mask-past}
 use Rattle.verdict.proofs.bits.node_bit.Statement.{statement}
 use Rattle.verdict.proofs.bits.node_bit.Tie as tie
 

@@ -4,7 +4,7 @@ use borrow.Author.Rules.{rules}
 use mathlib.Core.Path.{sym}
 use mathlib.Core.List.{[], ◌∷◌}
 use Rattle.calculus.specs.Sets.{member}
-use Rattle.verdict.specs.Bits.Laws.{mask_one, mask-past, bits_small}
+use Rattle.verdict.proofs.Theory.Bits.Laws.{mask_one, mask-past, bits_small}
 use Rattle.verdict.proofs.bits.term_bit.Statement.{statement}
 use Rattle.verdict.proofs.bits.term_bit.Tie as tie
 

@@ -8,7 +8,7 @@ use lib.Bits.{bit_or}
 use lib.ListN.{take}
 use lib.Seq.{take_all}
 use Rattle.verdict.specs.Bits.{mask}
-use Rattle.verdict.specs.Bits.Laws.{mask-nil, mask-joined}
+use Rattle.verdict.proofs.Theory.Bits.Laws.{mask-nil, mask-joined}
 use Rattle.verdict.proofs.bits.term_bits.Statement.{statement}
 use Rattle.verdict.proofs.bits.term_bits.Tie as tie
 

@@ -14,9 +14,9 @@ use Rattle.query.specs.Decoding.{formula_at}
 use Rattle.query.specs.Reading.{max_nodes}
 use Rattle.query.specs.Nodes.{kind, left, right, under}
 use Rattle.query.specs.Code.Fields.{NodeOf}
-use Rattle.query.specs.Code.Fields.Laws.{kind-read, kind-not-read}
+use Rattle.query.proofs.Theory.Code.Fields.Laws.{kind-read, kind-not-read}
 use Rattle.verdict.specs.Code.Form.{unit_word}
-use Rattle.verdict.specs.Form.Laws.{join_kind}
+use Rattle.verdict.proofs.Theory.Form.Laws.{join_kind}
 use Rattle.verdict.proofs.Writing.{Task, Done, Grown, child-asks, node-kind, at-below, child-grown, leaf-done, equality-done, not-asks, not_done, exists-asks, exists-done, join_kind-of, left-asks, right-asks, left-done, cleared-zeros, right-done, both-grown, join-done}
 use Rattle.verdict.proofs.form.propagate.Reads as propagate
 use Rattle.verdict.proofs.form.propagate.Kinds as propagate-kinds

@@ -3,7 +3,7 @@ use native.Mathlib.Omega.{arith}
 use borrow.Author.Rules.{rules}
 use mathlib.Core.Path.{sym, ◌∙◌}
 use lib.ListN.{take}
-use Rattle.query.specs.Code.Fields.Laws.{kind-read, kind-not-read}
+use Rattle.query.proofs.Theory.Code.Fields.Laws.{kind-read, kind-not-read}
 use Rattle.verdict.proofs.Writing.{held-again, held_first, joined-other, joined-unit, joined-zero}
 use Rattle.verdict.proofs.form.join.Statement.{statement}
 use Rattle.verdict.proofs.form.join.Tie as tie

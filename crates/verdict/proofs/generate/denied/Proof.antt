@@ -2,7 +2,7 @@
 use borrow.Author.Rules.{rules}
 use mathlib.Core.Path.{sym}
 use lib.ListN.{get_or}
-use Rattle.query.specs.Code.Fields.Laws.{kind-read, kind-not-read}
+use Rattle.query.proofs.Theory.Code.Fields.Laws.{kind-read, kind-not-read}
 use Rattle.verdict.proofs.Sets.{denied-none}
 use Rattle.verdict.proofs.generate.denied.Statement.{statement}
 use Rattle.verdict.proofs.generate.denied.Tie as tie

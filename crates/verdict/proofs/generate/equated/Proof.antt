@@ -8,7 +8,7 @@ use mathlib.Core.List.{[], ◌∷◌}
 use lib.Bits.{bit_or, or_zero_l, or_zero_r}
 use Rattle.query.specs.Nodes.{kind, variable, equal_term}
 use Rattle.query.specs.Code.Fields.{fields_of}
-use Rattle.query.specs.Code.Fields.Laws.{kind-read, kind-not-read}
+use Rattle.query.proofs.Theory.Code.Fields.Laws.{kind-read, kind-not-read}
 use Rattle.verdict.specs.Bits.{has, variable_mask}
 use Rattle.verdict.specs.Code.Generating.{equated_set}
 use Rattle.verdict.proofs.Sets.{equated-by}

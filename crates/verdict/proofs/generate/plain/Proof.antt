@@ -2,7 +2,7 @@
 use borrow.Author.Rules.{rules}
 use borrow.Author.Tests.{eq-eqb, ne_eqb, le-ltb, lt-ltb}
 use Rattle.query.specs.Nodes.{truth_bit, equal_term}
-use Rattle.query.specs.Code.Fields.Laws.{kind-read, kind-not-read}
+use Rattle.query.proofs.Theory.Code.Fields.Laws.{kind-read, kind-not-read}
 use Rattle.verdict.proofs.Sets.{kind-seven}
 use Rattle.verdict.proofs.generate.plain.Statement.{statement}
 use Rattle.verdict.proofs.generate.plain.Tie as tie

@@ -7,8 +7,8 @@ use mathlib.Core.List.{◌++◌, map}
 use lib.ListN.{length, get_or, take, drop, replicate, length-set}
 use Rattle.calculus.specs.Lists.{tabulate, padded}
 use Rattle.verdict.specs.Code.Generating.{plain_nodes}
-use Rattle.calculus.specs.Lists.Laws.{in_take}
-use Rattle.verdict.specs.Code.Generating.Reports.{numbers_more, numbers-all}
+use Rattle.calculus.proofs.Theory.Lists.Laws.{in_take}
+use Rattle.verdict.proofs.Theory.Code.Generating.Reports.{numbers_more, numbers-all}
 use Rattle.verdict.proofs.report.generators.Statement.{statement}
 use Rattle.verdict.proofs.report.generators.Tie as tie
 

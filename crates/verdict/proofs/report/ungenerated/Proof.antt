@@ -6,9 +6,9 @@ use mathlib.Core.Path.{◌≡◌, sym, ap, ◌∙◌}
 use mathlib.Core.Bool.{not}
 use mathlib.Core.Logic.{⊎_elim}
 use lib.ListN.{length, take}
-use Rattle.verdict.specs.Bits.Laws.{mask-nil}
+use Rattle.verdict.proofs.Theory.Bits.Laws.{mask-nil}
 use Rattle.verdict.specs.Code.Generating.{missing_from}
-use Rattle.verdict.specs.Code.Generating.Reports.{missing-more, missing-still}
+use Rattle.verdict.proofs.Theory.Code.Generating.Reports.{missing-more, missing-still}
 use Rattle.verdict.proofs.report.ungenerated.Statement.{statement}
 use Rattle.verdict.proofs.report.ungenerated.Tie as tie
 

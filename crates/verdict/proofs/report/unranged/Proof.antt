@@ -7,10 +7,10 @@ use mathlib.Core.Bool.{true, false, not, ◌&&◌}
 use mathlib.Core.Logic.{⊎_elim}
 use lib.Dec.{ltb}
 use Rattle.query.specs.Reading.{max_nodes}
-use Rattle.query.specs.Code.Fields.Laws.{kind-read, kind-not-read}
+use Rattle.query.proofs.Theory.Code.Fields.Laws.{kind-read, kind-not-read}
 use Rattle.verdict.specs.Bits.{bits}
 use Rattle.verdict.specs.Code.Generating.{is_unranged}
-use Rattle.verdict.specs.Code.Generating.Reports.{bits-start, bits-more, bits-still, unranged-found, unranged-other}
+use Rattle.verdict.proofs.Theory.Code.Generating.Reports.{bits-start, bits-more, bits-still, unranged-found, unranged-other}
 use Rattle.verdict.proofs.report.unranged.Statement.{statement}
 use Rattle.verdict.proofs.report.unranged.Tie as tie
 

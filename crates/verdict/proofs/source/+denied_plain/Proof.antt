@@ -11,13 +11,13 @@ use lib.ListN.{get_or}
 use Rattle.calculus.specs.Sets as sets
 use Rattle.query.specs.Nodes.{kind, left, right, under, children}
 use Rattle.query.specs.Code.Fields.{NodeOf}
-use Rattle.query.specs.Code.Fields.Laws.{kind-read, kind-not-read}
-use Rattle.query.specs.Nodes.Laws.{children-not, children-exists, both-children}
+use Rattle.query.proofs.Theory.Code.Fields.Laws.{kind-read, kind-not-read}
+use Rattle.query.proofs.Theory.Nodes.Laws.{children-not, children-exists, both-children}
 use Rattle.verdict.specs.Bits.{has}
 use Rattle.verdict.specs.Code.Form.{IsForm}
 use Rattle.verdict.specs.Code.Generating.{plain_bits, denied_bits, sets_of, equated_set, plain_nodes, other_side}
-use Rattle.verdict.specs.Code.Generating.Variables.{child-below}
-use Rattle.verdict.specs.Code.Generating.Sources as order
+use Rattle.verdict.proofs.Theory.Code.Generating.Variables.{child-below}
+use Rattle.verdict.proofs.Theory.Code.Generating.Sources as order
 use borrow.Fn.Kinds.{In}
 use borrow.Fn.PlainCycle.{Measures, is, falls, and}
 use Rattle.verdict.proofs.source.denied.Reads as denied

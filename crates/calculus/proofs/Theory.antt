@@ -1,0 +1,15 @@
+pub mod Decimal
+pub mod Evaluation
+pub mod Formula
+pub mod Generation
+pub mod Generators
+pub mod Lists
+pub mod Order
+pub mod Propagation
+pub mod Ranging
+pub mod Reflects
+pub mod Rows
+pub mod SafeRange
+pub mod Satisfaction
+pub mod Sets
+pub mod Substitution

@@ -1,0 +1,4 @@
+pub mod Digits
+pub mod First
+pub mod Laws
+pub mod Output

@@ -1,0 +1,4 @@
+pub mod Laws
+pub mod Places
+pub mod Right
+pub mod Told

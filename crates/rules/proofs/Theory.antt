@@ -1,0 +1,5 @@
+pub mod Code
+pub mod Grammar
+pub mod Meaning
+pub mod Output
+pub mod Reply

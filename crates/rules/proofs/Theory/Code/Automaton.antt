@@ -1,0 +1,4 @@
+pub mod Completion
+pub mod Laws
+pub mod Reading
+pub mod Spelling

@@ -1,0 +1,3 @@
+pub mod Difference
+pub mod Laws
+pub mod Layout

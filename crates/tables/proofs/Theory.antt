@@ -1,0 +1,4 @@
+pub mod Change
+pub mod Fill
+pub mod Records
+pub mod Store

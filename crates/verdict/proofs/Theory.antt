@@ -1,0 +1,4 @@
+pub mod Bits
+pub mod Code
+pub mod Form
+pub mod Verdict

@@ -1,0 +1,3 @@
+pub mod Reports
+pub mod Sources
+pub mod Variables
