@@ -31,8 +31,8 @@ enum-known-answer c = search rules
 
 code-requires : tie.Need-code-requires
 code-requires c κs =
-    let t = c.before in let f = t.before.before.before.before in
-    answer-place (bytes f) (out f) (after f) f.find_bytes-listing.result f.find_bytes-listing.ensures _ _ t.answer-1.given.1
+    let f = c.before.before.before in
+    answer-place (bytes f) (out f) (after f) f.find_bytes-listing.result f.find_bytes-listing.ensures _ _ c.in-Refused.is
 
 cast-result : tie.Need-overflow_cast-result
 cast-result c = search rules
@@ -45,8 +45,8 @@ same_length c = search rules
 
 returns : tie.Need-returns-in-Refused
 returns c =
-    let t = c.before.before in let f = t.before.before.before.before in
-    answer-refused (bytes f) (out f) (after f) f.find_bytes-listing.result f.find_bytes-listing.ensures _ _ _ t.answer-1.given.1 c.code.ensures.0
+    let f = c.before.before.before.before in
+    answer-refused (bytes f) (out f) (after f) f.find_bytes-listing.result f.find_bytes-listing.ensures _ _ _ c.in-Refused.is c.code.ensures.0
 
 enum_told : tie.Need-enum_told-1
 enum_told c = search rules
@@ -55,13 +55,13 @@ same-length-2 : tie.Need-shape_of-out-then-listing
 same-length-2 c = search rules
 
 returns-2 : tie.Need-returns-then-listing
-returns-2 c = let f = c.before.before.before.before.before in answer-endless (bytes f) (out f) (after f) f.find_bytes-listing.result f.find_bytes-listing.ensures c.before.enum_told-1.given.1 c.if-listing.true
+returns-2 c = let f = c.before.before.before.before in answer-endless (bytes f) (out f) (after f) f.find_bytes-listing.result f.find_bytes-listing.ensures c.in_default.is c.if-listing.true
 
 same-length-3 : tie.Need-shape_of-out
 same-length-3 c = search rules
 
 returns-3 : tie.Need-returns
-returns-3 c = let f = c.before.before.before.before.before in answer-listed (bytes f) (out f) (after f) f.find_bytes-listing.result f.find_bytes-listing.ensures c.before.enum_told-1.given.1 c.if-listing.false
+returns-3 c = let f = c.before.before.before.before in answer-listed (bytes f) (out f) (after f) f.find_bytes-listing.result f.find_bytes-listing.ensures c.in_default.is c.if-listing.false
 
 pub palmrummy_answer_spec : {M : Type 1} → statement M
 palmrummy_answer_spec =

@@ -23,21 +23,20 @@ add-result c = search rules
 
 returns : tie.Need-returns-in-Refused
 returns c =
-    let t = c.before.before in let p = t.before.before in let a = p.before.before.args in
-    rule-refused a.text.now a.out.now a.place.now p.pack-p.result p.pack-p.ensures _ _ t.answer-1.given.1
+    let a = c.args in
+    rule-refused a.text.now a.out.now a.place.now c.pack-p.result c.pack-p.ensures _ _ c.in-Refused.is
 
 enum_told : tie.Need-enum_told-1
 enum_told c = search rules
 
 cast-result-2 : tie.Need-overflow_cast-result-2
 cast-result-2 c =
-    let p = c.before.before.before.before in
-    omega (arith, reply-short p.before.before.args.text.now p.pack-p.result p.pack-p.ensures)
+    omega (arith, reply-short c.args.text.now c.pack-p.result c.pack-p.ensures)
 
 returns-2 : tie.Need-returns
 returns-2 c =
-    let t = c.before.before in let p = t.before.before in let a = p.before.before.args in
-    rule-packed a.text.now a.out.now a.place.now p.pack-p.result p.pack-p.ensures t.enum_told-1.given.1
+    let a = c.args in
+    rule-packed a.text.now a.out.now a.place.now c.pack-p.result c.pack-p.ensures c.in_default.is
 
 pub palmrummy_rule_spec : {M : Type 1} → statement M
 palmrummy_rule_spec =

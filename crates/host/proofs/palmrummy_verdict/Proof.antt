@@ -19,29 +19,29 @@ enum-known-answer c = search rules
 
 code-requires : tie.Need-code-requires
 code-requires c κs =
-    let t = c.before in let j = t.before.before in let a = j.before.before.args in
-    verdict-place a.input.now a.out.now j.judge-v.result j.judge-v.ensures _ _ t.answer-1.given.1
+    let j = c.before in let a = c.args in
+    verdict-place a.input.now a.out.now j.judge-v.result j.judge-v.ensures _ _ c.in-Refused.is
 
 add-result : tie.Need-overflow_add-result
 add-result c = search rules
 
 returns : tie.Need-returns-in-Refused
 returns c =
-    let t = c.before.before in let j = t.before.before in let a = j.before.before.args in
-    verdict-refused a.input.now a.out.now j.judge-v.result j.judge-v.ensures _ _ _ t.answer-1.given.1 c.code.ensures.0
+    let j = c.before.before in let a = c.args in
+    verdict-refused a.input.now a.out.now j.judge-v.result j.judge-v.ensures _ _ _ c.in-Refused.is c.code.ensures.0
 
 enum_told : tie.Need-enum_told-1
 enum_told c = search rules
 
 written-requires : tie.Need-written-requires
 written-requires c κs =
-    let j = c.before.before in let a = j.before.before.args in
-    verdict-writable a.input.now j.judge-v.result j.judge-v.ensures (λ i. (constant-fits j i).fits) c.enum_told-1.given.1
+    let j = c.before in let a = c.args in
+    verdict-writable a.input.now j.judge-v.result j.judge-v.ensures (λ i. (constant-fits j i).fits) c.in_default.is
 
 returns-2 : tie.Need-returns
 returns-2 c =
-    let t = c.before in let j = t.before.before in let a = j.before.before.args in
-    verdict-written a.input.now a.out.now j.judge-v.result j.judge-v.ensures _ t.enum_told-1.given.1 c.written.ensures
+    let j = c.before.before in let a = c.args in
+    verdict-written a.input.now a.out.now j.judge-v.result j.judge-v.ensures _ c.in_default.is c.written.ensures
 
 pub palmrummy_verdict_spec : {M : Type 1} → statement M
 palmrummy_verdict_spec =

@@ -63,7 +63,7 @@ module _ (v : Verdict) where
 abbrev start : tie.Joined-v → tie.Start
 start c = c.before.before.before.before
 flag-chosen : (c : tie.Joined-v) → c.if-v.reply ≡ flag (start c).args.v.safe
-flag-chosen c = ⊎_elim (λ w. w.1 ∙ ap flag (sym w.0.taken)) (λ w. w.1 ∙ ap flag (sym w.0.left)) c.if-v.branch-raw
+flag-chosen c = ⊎_elim (λ w. w.reply-is ∙ ap flag (sym w.if-v.true)) (λ w. w.reply-is ∙ ap flag (sym w.if-v.false)) c.if-v.branch-raw
 
 variables-long : (c : tie.Start) → length c.args.v.columns.variables ≡ 4
 variables-long c = search rules

@@ -20,7 +20,7 @@ constant-fits c k = search rules
 
 -- It is accepted.
 abbrev taken : tie.In_default → tie.After-take-input
-taken c = c.before.before.before.before.before
+taken c = c.before.before.before.before
 -- ---- the needs
 
 take-requires : tie.Need-take-input-requires
@@ -34,17 +34,17 @@ refused-requires c κs = search rules
 
 returns : tie.Need-returns-in-Refused
 returns c =
-    let t = c.before.before in let i = t.before.before.before.before.before in
-    refused-input (bytes i) i.take-input.result i.take-input.ensures _ _ t.answer-1.given.1 c.refused.result c.refused.ensures
+    let i = c.before.before.before.before.before in
+    refused-input (bytes i) i.take-input.result i.take-input.ensures _ _ c.in-Refused.is c.refused.result c.refused.ensures
 
 enum_told : tie.Need-enum_told-1
 enum_told c = search rules
 
 judged-requires : tie.Need-judged-requires
-judged-requires c κs = let i = taken c in judged-asks (bytes i) i.take-input.result i.take-input.ensures c.enum_told-1.given.1 (λ k. (constant-fits i k).fits)
+judged-requires c κs = let i = taken c in judged-asks (bytes i) i.take-input.result i.take-input.ensures c.in_default.is (λ k. (constant-fits i k).fits)
 
 returns-2 : tie.Need-returns
-returns-2 c = let t = c.before in let i = taken t in judged-input (bytes i) i.take-input.result i.take-input.ensures t.enum_told-1.given.1 c.judged.result c.judged.ensures
+returns-2 c = let i = taken c.before in judged-input (bytes i) i.take-input.result i.take-input.ensures c.in_default.is c.judged.result c.judged.ensures
 
 pub assess_spec : {M : Type 1} → statement M
 assess_spec = tie.close (tie.spec take-requires enum-known-answer refused-requires returns enum_told judged-requires returns-2)

@@ -27,7 +27,7 @@ constant-fits c k = search rules
 
 -- It is accepted.
 abbrev assessed : tie.In_default → tie.After-assess-assessment
-assessed c = c.before.before.before
+assessed c = c.before.before
 -- ---- the needs
 
 assess-requires : tie.Need-assess-assessment-requires
@@ -41,8 +41,8 @@ refused-listing-requires c κs = search rules
 
 returns : tie.Need-returns-in-Refused
 returns c =
-    let t = c.before.before in let a = t.before.before.before in
-    ap (λ l. (l, out a)) c.refused_listing.ensures ∙ refused-list (bytes a) a.assess-assessment.result a.assess-assessment.ensures _ _ t.answer-1.given.1 front (length (out a)) (out a)
+    let a = c.before.before.before in
+    ap (λ l. (l, out a)) c.refused_listing.ensures ∙ refused-list (bytes a) a.assess-assessment.result a.assess-assessment.ensures _ _ c.in-Refused.is front (length (out a)) (out a)
 
 enum_told : tie.Need-enum_told-1
 enum_told c = search rules
@@ -50,7 +50,7 @@ enum_told c = search rules
 evaluate-requires : tie.Need-evaluate-found-requires
 evaluate-requires c κs =
     let e = c.before.before.before.before in let a = assessed e in
-    evaluable (bytes a) a.assess-assessment.result a.assess-assessment.ensures e.enum_told-1.given.1 (λ k. (constant-fits a k).fits)
+    evaluable (bytes a) a.assess-assessment.result a.assess-assessment.ensures c.in_default.is (λ k. (constant-fits a k).fits)
 
 list-requires : tie.Need-list-requires
 list-requires c κs = search rules
@@ -60,9 +60,9 @@ same_length c = search rules
 
 returns-2 : tie.Need-returns
 returns-2 c =
-    let f = c.before.before.before in let e = f.before.before.before.before.before in let a = assessed e in let after = f.evaluate-found.new.out in
+    let f = c.before.before.before in let e = f.before.before.before.before.before in let a = assessed e in let after = c.evaluate-found.new.out in
     ap (λ l. (l, after)) c.list.ensures
-    ∙ list-given (bytes a) a.assess-assessment.result a.assess-assessment.ensures e.enum_told-1.given.1 (λ k. (constant-fits a k).fits) front (length (out a)) (out a) f.evaluate-found.result after f.evaluate-found.ensures
+    ∙ list-given (bytes a) a.assess-assessment.result a.assess-assessment.ensures c.in_default.is (λ k. (constant-fits a k).fits) front (length (out a)) (out a) c.evaluate-found.result after c.evaluate-found.ensures
 
 pub find_spec : {M : Type 1} → statement M
 find_spec = tie.close (tie.spec assess-requires enum-known-answer refused-listing-requires returns enum_told evaluate-requires list-requires same_length returns-2)

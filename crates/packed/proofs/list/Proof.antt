@@ -13,14 +13,14 @@ refused-listing-requires c κs = search rules
 
 returns : tie.Need-returns-in-Refused
 returns c =
-    let t = c.before.before in let a = t.before.before.args in
-    c.refused_listing.ensures ∙ ap (λ r. listing_by r a.found a.safe a.columns) (sym t.answer-1.given.1)
+    let a = c.args in
+    c.refused_listing.ensures ∙ ap (λ r. listing_by r a.found a.safe a.columns) (sym c.in-Refused.is)
 
 enum_told : tie.Need-enum_told-1
 enum_told c = search rules
 
 returns-2 : tie.Need-returns
-returns-2 c = let a = c.before.args in ap (λ r. listing_by r a.found a.safe a.columns) (sym c.enum_told-1.given.1)
+returns-2 c = let a = c.args in ap (λ r. listing_by r a.found a.safe a.columns) (sym c.in_default.is)
 
 pub list_spec : {M : Type 1} → statement M
 list_spec = tie.close (tie.spec enum-known-answer refused-listing-requires returns enum_told returns-2)

@@ -66,15 +66,15 @@ entire c = apart c.before.before
 reading : (c : tie.After-read-reading) → let bs = bytes (measured (entire c)) in c.read-reading.result ≡ read_of (widths_in bs) (query_in bs)
 reading c =
     let w = entire c in let bs = bytes (measured w) in
-    c.read-reading.ensures ∙ (λ j. read_of (heads w j).widths (rest bs (measured w).measure.result.head.count (counts w) j))
+    c.read-reading.ensures ∙ (λ j. read_of (heads w j).widths (rest bs (measured w).measure-extent.result.head.count (counts w) j))
 
 -- It is accepted.
-read : (c : tie.In_default) → let bs = bytes (measured (entire c.before.before)) in (read_of (widths_in bs) (query_in bs)).answer ≡ Done
-read c = ap (λ v. v.answer) (sym (reading c.before.before)) ∙ c.enum_told-1.given.1
+read : (c : tie.In_default) → let bs = bytes (measured (entire c.before)) in (read_of (widths_in bs) (query_in bs)).answer ≡ Done
+read c = ap (λ v. v.answer) (sym (reading c.before)) ∙ c.in_default.is
 
 -- The store is filled.
 abbrev queried : tie.After-fill-filled → tie.After-read-reading
-queried c = c.before.before.before
+queried c = c.before.before
 filling : (c : tie.After-fill-filled) → let bs = bytes (measured (entire (queried c))) in c.fill-filled.result ≡ fill_reply (widths_in bs) (records_in bs)
 filling c =
     let r = queried c in let w = entire r in let bs = bytes (measured w) in
@@ -94,7 +94,7 @@ returns : tie.Need-returns-then-not-extent
 returns c =
     let m = c.before.before.before in
     c.refused.ensures
-    ∙ sym (input-short (bytes m) (sym (extent-whole (bytes m)) ∙ ap (λ e. e.whole) (sym m.measure-extent.ensures) ∙ not-true m.measure-extent.result.whole c.before.if-not-extent.true))
+    ∙ sym (input-short (bytes m) (sym (extent-whole (bytes m)) ∙ ap (λ e. e.whole) (sym m.measure-extent.ensures) ∙ not-true m.measure-extent.result.whole c.if-not-extent.true))
 
 mul-from : tie.Need-overflow_mul-from
 mul-from c = omega (arith, reaches (apart c))
@@ -122,14 +122,14 @@ refused-requires-2 c κs = search rules
 
 returns-2 : tie.Need-returns-in-Refused
 returns-2 c =
-    let t = c.before.before in let r = t.before.before in let w = entire r in
-    c.refused-in-Refused.ensures ∙ sym (input-unread (bytes (measured w)) (whole w) _ _ (ap (λ v. v.answer) (sym (reading r)) ∙ t.answer-1.given.1))
+    let r = c.before.before in let w = entire r in
+    c.refused-in-Refused.ensures ∙ sym (input-unread (bytes (measured w)) (whole w) _ _ (ap (λ v. v.answer) (sym (reading r)) ∙ c.in-Refused.is))
 
 enum_told : tie.Need-enum_told-1
 enum_told c = search rules
 
 fill-requires : tie.Need-fill-filled-requires
-fill-requires c κs = reaches (entire c.before.before)
+fill-requires c κs = reaches (entire c.before)
 
 enum-known-outcome : tie.Need-enum_known-outcome
 enum-known-outcome c = search rules
@@ -139,16 +139,16 @@ refused-requires-3 c κs = search rules
 
 returns-3 : tie.Need-returns-in-Refused-outcome
 returns-3 c =
-    let t = c.before.before in let f = t.before.before in let w = entire (queried f) in
-    c.refused-in-Refused-outcome.ensures ∙ sym (input-unfilled (bytes (measured w)) (whole w) (read f.before) _ _ (ap (λ v. v.answer) (sym (filling f)) ∙ t.outcome-1.given.1))
+    let f = c.before.before in let w = entire (queried f) in
+    c.refused-in-Refused-outcome.ensures ∙ sym (input-unfilled (bytes (measured w)) (whole w) (read f.before) _ _ (ap (λ v. v.answer) (sym (filling f)) ∙ c.in-Refused-outcome.is))
 
 enum-told-2 : tie.Need-enum_told-in_default-outcome
 enum-told-2 c = search rules
 
 returns-4 : tie.Need-returns
 returns-4 c =
-    let t = c.before.before.before in let f = t.before.before in let r = queried f in let w = entire r in
-    (λ j. assembled (filling f j) (reading r j)) ∙ sym (input-filled (bytes (measured w)) (whole w) (read f.before) (ap (λ v. v.answer) (sym (filling f)) ∙ t.enum_told-in_default-outcome-1.given.1))
+    let f = c.before.before.before.before in let r = queried f in let w = entire r in
+    (λ j. assembled (filling f j) (reading r j)) ∙ sym (input-filled (bytes (measured w)) (whole w) (read f.before) (ap (λ v. v.answer) (sym (filling f)) ∙ c.in_default-outcome.is))
 
 pub take_spec : {M : Type 1} → statement M
 take_spec =
