@@ -15,16 +15,21 @@
 #![tactic(auto)]
 
 mod lend;
+mod put;
 mod runs;
 
-ghost use Rattle.std.specs.Prelude.{◌≤◌, ◌<◌, ◌≡◌};
+ghost use Rattle.std.specs.Prelude.{◌≤◌, ◌<◌, ◌≡◌, length};
 ghost use Rattle.answer.specs.Reply.{found_of};
 
 use answer::Found;
 use causes::Answer;
 use query::{Columns, Query};
+use std::io::Stdout;
 use tables::{Changed, Record, Store};
 use verdict::Verdict;
+
+// The bytes of input that are read.
+const SPACE: usize = 65536;
 
 // The most numbers that are lent to an answer.
 const LENT: usize = 8192;
@@ -102,29 +107,29 @@ fn store_of(s: &[u8], from: usize) -> Store
     }
 }
 
-fn word(n: u64) {
-    io::write_all(1, b" ");
-    io::print_decimal(1, n);
+fn word(out: Stdout, n: u64) {
+    put::bytes(out, b" ");
+    put::decimal(out, n);
 }
 
-fn number(n: u32) {
-    word(n as u64);
+fn number(out: Stdout, n: u32) {
+    word(out, n as u64);
 }
 
-fn hex_word(n: u32) {
-    io::write_all(1, b" ");
-    io::print_hex(1, n as u64, 8);
+fn hex_word(out: Stdout, n: u32) {
+    put::bytes(out, b" ");
+    put::hex_word(out, n);
 }
 
-fn hex_long(n: u64) {
-    io::write_all(1, b" ");
-    io::print_hex(1, n, 16);
+fn hex_long(out: Stdout, n: u64) {
+    put::bytes(out, b" ");
+    put::hex_long(out, n);
 }
 
-fn refused(number: u8, place: u64) {
-    io::write_all(1, b" refused");
-    word(number as u64);
-    word(place);
+fn refused(out: Stdout, number: u8, place: u64) {
+    put::bytes(out, b" refused");
+    word(out, number as u64);
+    word(out, place);
 }
 
 // The parts of a record.
@@ -138,10 +143,10 @@ fn parts(r: Record) -> [u32; 5] {
     ]
 }
 
-fn list_record(r: Record) {
+fn list_record(out: Stdout, r: Record) {
     let numbers = parts(r);
-    io::write_all(1, b" |");
-    list_numbers(&numbers, 5, false);
+    put::bytes(out, b" |");
+    list_numbers(out, &numbers, 5, false);
 }
 
 fn mixed(h: u64, v: u32) -> u64 {
@@ -187,51 +192,51 @@ fn sum_of(s: Store) -> u64 {
 }
 
 // The count, the sum, and the records of a small store.
-fn list_store(s: Store) {
+fn list_store(out: Stdout, s: Store) {
     let count = s.count;
     let relations = s.relations;
     let values = s.values;
-    io::write_all(1, b" count");
-    word(count as u64);
-    io::write_all(1, b" sum");
-    word(sum_of(s));
+    put::bytes(out, b" count");
+    word(out, count as u64);
+    put::bytes(out, b" sum");
+    word(out, sum_of(s));
     if count <= 4 {
-        list_records(relations, values, count);
+        list_records(out, relations, values, count);
     }
 }
 
 // The first records of these places.
-fn list_records(relations: [u8; 256], values: [u32; 1024], count: usize)
+fn list_records(out: Stdout, relations: [u8; 256], values: [u32; 1024], count: usize)
     requires { count ≤ 4 }
 {
     let mut i = 0;
     while i < count {
-        list_record(tables::place::read(&relations, &values, i));
+        list_record(out, tables::place::read(&relations, &values, i));
         i += 1;
     }
 }
 
-fn list_changed(c: Changed) {
+fn list_changed(out: Stdout, c: Changed) {
     let answer = c.answer;
     match answer {
         Answer::Done => {
-            io::write_all(1, b" done");
+            put::bytes(out, b" done");
         }
-        Answer::Refused(number, place) => refused(number, place),
+        Answer::Refused(number, place) => refused(out, number, place),
     }
     let s = c.store;
-    list_store(s);
+    list_store(out, s);
 }
 
 // The first n numbers, or all: in decimal, or as words of eight hexadecimal digits.
-fn list_numbers(s: &[u32], n: usize, as_words: bool) {
+fn list_numbers(out: Stdout, s: &[u32], n: usize, as_words: bool) {
     let mut i = 0;
     while i < s.len() {
         if i < n {
             if as_words {
-                hex_word(s[i]);
+                hex_word(out, s[i]);
             } else {
-                number(s[i]);
+                number(out, s[i]);
             }
         }
         i += 1;
@@ -249,22 +254,22 @@ fn variables_of(c: Columns) -> [u32; 4] {
     ]
 }
 
-fn list_columns(c: Columns) {
+fn list_columns(out: Stdout, c: Columns) {
     let columns = variables_of(c);
-    io::write_all(1, b" accepted columns");
-    list_numbers(&columns, c.count, false);
+    put::bytes(out, b" accepted columns");
+    list_numbers(out, &columns, c.count, false);
 }
 
-fn list_query(q: Query) {
+fn list_query(out: Stdout, q: Query) {
     let constants = q.constants;
     let nodes = q.nodes;
-    io::write_all(1, b" constants");
-    list_numbers(&constants, q.constant_count, false);
-    io::write_all(1, b" nodes");
-    list_numbers(&nodes, q.node_count, true);
+    put::bytes(out, b" constants");
+    list_numbers(out, &constants, q.constant_count, false);
+    put::bytes(out, b" nodes");
+    list_numbers(out, &nodes, q.node_count, true);
 }
 
-fn run_query(body: &[u8]) {
+fn run_query(out: Stdout, body: &[u8]) {
     if body.len() < 16 {
         return;
     }
@@ -274,53 +279,53 @@ fn run_query(body: &[u8]) {
         Answer::Done => {
             let q = r.query;
             let c = r.columns;
-            list_columns(c);
-            list_query(q);
+            list_columns(out, c);
+            list_query(out, q);
         }
-        Answer::Refused(number, place) => refused(number, place),
+        Answer::Refused(number, place) => refused(out, number, place),
     }
 }
 
-fn list_generators(generators: [u64; 4]) {
-    io::write_all(1, b" generators");
-    hex_long(generators[0]);
-    hex_long(generators[1]);
-    hex_long(generators[2]);
-    hex_long(generators[3]);
+fn list_generators(out: Stdout, generators: [u64; 4]) {
+    put::bytes(out, b" generators");
+    hex_long(out, generators[0]);
+    hex_long(out, generators[1]);
+    hex_long(out, generators[2]);
+    hex_long(out, generators[3]);
 }
 
-fn list_reports(ungenerated: u64, unranged: u64, safe: bool) {
-    io::write_all(1, b" ungenerated");
-    hex_long(ungenerated);
-    io::write_all(1, b" unranged");
-    hex_long(unranged);
+fn list_reports(out: Stdout, ungenerated: u64, unranged: u64, safe: bool) {
+    put::bytes(out, b" ungenerated");
+    hex_long(out, ungenerated);
+    put::bytes(out, b" unranged");
+    hex_long(out, unranged);
     if safe {
-        io::write_all(1, b" safe");
+        put::bytes(out, b" safe");
     } else {
-        io::write_all(1, b" unsafe");
+        put::bytes(out, b" unsafe");
     }
 }
 
 // The form with the query's columns, then what the verdict reports.
-fn list_verdict(v: Verdict) {
+fn list_verdict(out: Stdout, v: Verdict) {
     let form = v.form;
     let columns = v.columns;
     let generators = v.generators;
-    list_columns(columns);
-    list_query(form);
-    list_generators(generators);
-    list_reports(v.ungenerated as u64, v.unranged, v.safe);
+    list_columns(out, columns);
+    list_query(out, form);
+    list_generators(out, generators);
+    list_reports(out, v.ungenerated as u64, v.unranged, v.safe);
 }
 
-fn run_verdict(body: &[u8]) {
+fn run_verdict(out: Stdout, body: &[u8]) {
     if body.len() < 16 {
         return;
     }
     let v = verdict::judge(&body[16..], widths_of(body, 0));
     let answer = v.answer;
     match answer {
-        Answer::Done => list_verdict(v),
-        Answer::Refused(number, place) => refused(number, place),
+        Answer::Done => list_verdict(out, v),
+        Answer::Refused(number, place) => refused(out, number, place),
     }
 }
 
@@ -331,7 +336,7 @@ fn capped(n: usize) -> usize
     if n < 65536 { n } else { 65536 }
 }
 
-fn run_fill(body: &[u8]) {
+fn run_fill(out: Stdout, body: &[u8]) {
     let end = capped(body.len());
     let mut f = tables::fill::begin(widths_of(body, 0));
     let mut at = 16;
@@ -340,10 +345,10 @@ fn run_fill(body: &[u8]) {
         f = tables::fill::collect(f, r.relation, r.first, r.second, r.third, r.fourth);
         at += 17;
     }
-    list_changed(f);
+    list_changed(out, f);
 }
 
-fn run_lent_fill(body: &[u8]) {
+fn run_lent_fill(out: Stdout, body: &[u8]) {
     let records = [
         record_of(body, 16),
         record_of(body, 33),
@@ -354,16 +359,16 @@ fn run_lent_fill(body: &[u8]) {
         record_of(body, 118),
         record_of(body, 135),
     ];
-    list_changed(lend::fill_eight(widths_of(body, 0), records));
+    list_changed(out, lend::fill_eight(widths_of(body, 0), records));
 }
 
-fn run_judge(s: Store) {
+fn run_judge(out: Stdout, s: Store) {
     let answer = tables::layout::judge(s);
     match answer {
         Answer::Done => {
-            io::write_all(1, b" done");
+            put::bytes(out, b" done");
         }
-        Answer::Refused(number, place) => refused(number, place),
+        Answer::Refused(number, place) => refused(out, number, place),
     }
 }
 
@@ -392,25 +397,25 @@ fn numbers_of(rows: usize, columns: usize) -> usize {
     }
 }
 
-fn list_rows(f: Found, numbers: &[u32], end: usize) {
+fn list_rows(out: Stdout, f: Found, numbers: &[u32], end: usize) {
     if f.endless {
-        io::write_all(1, b" endless");
+        put::bytes(out, b" endless");
         return;
     }
-    io::write_all(1, b" rows");
-    word(f.rows as u64);
-    list_numbers(numbers, end, false);
+    put::bytes(out, b" rows");
+    word(out, f.rows as u64);
+    list_numbers(out, numbers, end, false);
 }
 
-fn list_found(f: Found, columns: usize, numbers: &[u32]) {
+fn list_found(out: Stdout, f: Found, columns: usize, numbers: &[u32]) {
     let end = numbers_of(f.rows, columns);
     let answer = f.answer;
     match answer {
-        Answer::Done => list_rows(f, numbers, end),
-        Answer::Refused(number, place) => refused(number, place),
+        Answer::Done => list_rows(out, f, numbers, end),
+        Answer::Refused(number, place) => refused(out, number, place),
     }
-    io::write_all(1, b" rest");
-    word(sum_from(numbers, end));
+    put::bytes(out, b" rest");
+    word(out, sum_from(numbers, end));
 }
 
 // How many columns a query has: as many as the reader finds.
@@ -426,14 +431,14 @@ fn find(s: Store, bytes: &[u8], wanted: bool, out: &mut [u32]) -> Found
     answer::find(s, bytes, wanted, out)
 }
 
-fn answer_in(s: Store, bytes: &[u8], wanted: bool, out: &mut [u32]) {
+fn answer_in(out: Stdout, s: Store, bytes: &[u8], wanted: bool, numbers: &mut [u32]) {
     let widths = s.widths;
     let columns = width_of(bytes, widths);
-    let f = find(s, bytes, wanted, out);
-    list_found(f, columns, out);
+    let f = find(s, bytes, wanted, numbers);
+    list_found(out, f, columns, numbers);
 }
 
-fn run_answer(body: &[u8]) {
+fn run_answer(out: Stdout, body: &[u8]) {
     let start = 23 + 17 * pair(body, 21);
     if body.len() < start {
         return;
@@ -444,6 +449,7 @@ fn run_answer(body: &[u8]) {
     }
     let mut space = lent(room);
     answer_in(
+        out,
         store_of(body, 3),
         &body[start..],
         byte(body, 0) == 1,
@@ -451,23 +457,29 @@ fn run_answer(body: &[u8]) {
     );
 }
 
-fn run(kind: u8, body: &[u8]) {
+fn run(out: Stdout, kind: u8, body: &[u8]) {
     match kind {
-        b'q' => run_query(body),
-        b'v' => run_verdict(body),
-        b's' => run_judge(store_of(body, 17)),
-        b'p' => list_changed(tables::change::put(store_of(body, 17), record_of(body, 0))),
-        b'r' => list_changed(tables::change::remove(store_of(body, 17), record_of(body, 0))),
-        b'f' => run_fill(body),
-        b'l' => run_lent_fill(body),
-        b'a' => run_answer(body),
-        b'o' => runs::run(body),
+        b'q' => run_query(out, body),
+        b'v' => run_verdict(out, body),
+        b's' => run_judge(out, store_of(body, 17)),
+        b'p' => list_changed(
+            out,
+            tables::change::put(store_of(body, 17), record_of(body, 0)),
+        ),
+        b'r' => list_changed(
+            out,
+            tables::change::remove(store_of(body, 17), record_of(body, 0)),
+        ),
+        b'f' => run_fill(out, body),
+        b'l' => run_lent_fill(out, body),
+        b'a' => run_answer(out, body),
+        b'o' => runs::run(out, body),
         _ => {}
     }
 }
 
 // The case at a place of the input, and where the next one starts.
-fn step(input: &[u8], at: usize) -> usize
+fn step(out: Stdout, input: &[u8], at: usize) -> usize
     requires { at < 65536 }
     ensures { at < result }
 {
@@ -476,21 +488,28 @@ fn step(input: &[u8], at: usize) -> usize
     let body = name + query::wide(byte(input, at + 1)) as usize;
     let end = body + pair(input, at + 2);
     if input.len() < end {
-        io::write_all(1, b"input ends early\n");
+        put::bytes(out, b"input ends early\n");
         return end;
     }
-    io::write_all(1, &input[name..body]);
-    io::write_all(1, b":");
-    run(kind, &input[body..end]);
-    io::write_all(1, b"\n");
+    put::bytes(out, &input[name..body]);
+    put::bytes(out, b":");
+    run(out, kind, &input[body..end]);
+    put::bytes(out, b"\n");
     end
 }
 
-fn main() {
-    let mut space = io::large_buffer();
-    let n = io::read_full(0, &mut space);
+// Room for the input. By its contract, which says no more than the length, no proof goes through its bytes one by one.
+fn input_room() -> [u8; SPACE]
+    ensures { 65536 ≡ length result }
+{
+    [0; SPACE]
+}
+
+fn main(rt: HostRuntime) {
+    let mut space = input_room();
+    let n = streams::read_all(&mut rt.stdin(), &mut space).bytes;
     let mut at = 0;
     while at < n {
-        at = step(&space[..n], at);
+        at = step(rt.stdout(), &space[..n], at);
     }
 }

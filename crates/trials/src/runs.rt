@@ -5,6 +5,7 @@ ghost use Rattle.std.specs.Prelude.{◌<◌};
 use causes::Answer;
 use query::Columns;
 use standing::{Change, Rows, View};
+use std::io::Stdout;
 use tables::{Record, Store};
 
 // The bytes of a call: its kind, a record, and the lengths of two buffers.
@@ -62,47 +63,47 @@ fn view_of(s: &[u8], from: usize) -> View
     }
 }
 
-fn list_columns(c: Columns) {
+fn list_columns(out: Stdout, c: Columns) {
     let variables = crate::variables_of(c);
-    io::write_all(1, b" columns");
-    crate::word(c.count as u64);
-    crate::list_numbers(&variables, 4, false);
+    crate::put::bytes(out, b" columns");
+    crate::word(out, c.count as u64);
+    crate::list_numbers(out, &variables, 4, false);
 }
 
-fn list_view(v: View) {
+fn list_view(out: Stdout, v: View) {
     let columns = v.columns;
     let rows = v.rows;
     let values = rows.values;
-    list_columns(columns);
+    list_columns(out, columns);
     if v.endless {
-        io::write_all(1, b" endless");
+        crate::put::bytes(out, b" endless");
     }
-    io::write_all(1, b" rows");
-    crate::word(rows.count as u64);
-    crate::word(crate::sum_from(&values, 0));
-    io::write_all(1, b" counts");
-    crate::word(v.opening);
-    crate::word(v.joined);
-    crate::word(v.left);
+    crate::put::bytes(out, b" rows");
+    crate::word(out, rows.count as u64);
+    crate::word(out, crate::sum_from(&values, 0));
+    crate::put::bytes(out, b" counts");
+    crate::word(out, v.opening);
+    crate::word(out, v.joined);
+    crate::word(out, v.left);
 }
 
-fn list_change(c: Change) {
+fn list_change(out: Stdout, c: Change) {
     let answer = c.answer;
     let store = c.store;
     let view = c.view;
     match answer {
         Answer::Done => {
-            io::write_all(1, b" ; done");
+            crate::put::bytes(out, b" ; done");
         }
         Answer::Refused(number, place) => {
-            io::write_all(1, b" ;");
-            crate::refused(number, place);
+            crate::put::bytes(out, b" ;");
+            crate::refused(out, number, place);
         }
     }
-    crate::word(c.joined as u64);
-    crate::word(c.left as u64);
-    crate::list_store(store);
-    list_view(view);
+    crate::word(out, c.joined as u64);
+    crate::word(out, c.left as u64);
+    crate::list_store(out, store);
+    list_view(out, view);
 }
 
 fn change(
@@ -121,6 +122,7 @@ fn change(
 }
 
 fn changed(
+    out: Stdout,
     kind: u8,
     c: Change,
     bytes: &[u8],
@@ -131,15 +133,15 @@ fn changed(
     let store = c.store;
     let view = c.view;
     let after = change(kind, store, view, bytes, tuple, joined, left);
-    list_change(after);
-    io::write_all(1, b" buffers");
-    crate::word(crate::sum_from(joined, 0));
-    crate::word(crate::sum_from(left, 0));
+    list_change(out, after);
+    crate::put::bytes(out, b" buffers");
+    crate::word(out, crate::sum_from(joined, 0));
+    crate::word(out, crate::sum_from(left, 0));
     after
 }
 
 // The call at a place, on the store and list that the last one left.
-fn call(c: Change, bytes: &[u8], calls: &[u8], at: usize) -> Change
+fn call(out: Stdout, c: Change, bytes: &[u8], calls: &[u8], at: usize) -> Change
     requires { at < 65536 }
 {
     let a = crate::pair(calls, at + 18);
@@ -153,6 +155,7 @@ fn call(c: Change, bytes: &[u8], calls: &[u8], at: usize) -> Change
     let mut first = crate::lent(a);
     let mut second = crate::lent(b);
     changed(
+        out,
         crate::byte(calls, at),
         c,
         bytes,
@@ -162,8 +165,8 @@ fn call(c: Change, bytes: &[u8], calls: &[u8], at: usize) -> Change
     )
 }
 
-fn go_on(store: Store, view: View, bytes: &[u8], calls: &[u8]) {
-    list_view(view);
+fn go_on(out: Stdout, store: Store, view: View, bytes: &[u8], calls: &[u8]) {
+    list_view(out, view);
     let end = crate::capped(calls.len());
     let mut c = Change {
         answer: Answer::Done,
@@ -174,26 +177,26 @@ fn go_on(store: Store, view: View, bytes: &[u8], calls: &[u8]) {
     };
     let mut at = 0;
     while at + CALL <= end {
-        c = call(c, bytes, calls, at);
+        c = call(out, c, bytes, calls, at);
         at += CALL;
     }
 }
 
-fn opened(store: Store, bytes: &[u8], calls: &[u8]) {
+fn opened(out: Stdout, store: Store, bytes: &[u8], calls: &[u8]) {
     let opening = standing::open(store, bytes);
     let answer = opening.answer;
     let view = opening.view;
     match answer {
-        Answer::Done => go_on(store, view, bytes, calls),
+        Answer::Done => go_on(out, store, view, bytes, calls),
         Answer::Refused(number, place) => {
-            crate::refused(number, place);
-            list_view(view);
+            crate::refused(out, number, place);
+            list_view(out, view);
         }
     }
 }
 
 // Whether the list is handed in, the length of the query, a store, the query, a list that is handed in, and the calls.
-pub fn run(body: &[u8]) {
+pub fn run(out: Stdout, body: &[u8]) {
     let start = 23 + 17 * crate::pair(body, 21);
     let end = start + crate::pair(body, 1);
     if body.len() < end {
@@ -204,12 +207,18 @@ pub fn run(body: &[u8]) {
     }
     let store = crate::store_of(body, 3);
     if crate::byte(body, 0) == 0 {
-        opened(store, &body[start..end], &body[end..]);
+        opened(out, store, &body[start..end], &body[end..]);
         return;
     }
     let calls = end + 35 + 16 * crate::pair(body, end + 8);
     if body.len() < calls {
         return;
     }
-    go_on(store, view_of(body, end), &body[start..end], &body[calls..]);
+    go_on(
+        out,
+        store,
+        view_of(body, end),
+        &body[start..end],
+        &body[calls..],
+    );
 }
