@@ -1,6 +1,5 @@
 -- `tables::fill::begin` meets its contract: a law for each way out.
 use borrow.Author.Rules.{rules}
-use borrow.Author.Tests.{not-true, not-false}
 use mathlib.Core.Path.{sym, ◌∙◌}
 use Rattle.tables.proofs.Laws.{beginning-refused, beginning-done}
 use Rattle.tables.proofs.fill.begin.Statement.{statement}

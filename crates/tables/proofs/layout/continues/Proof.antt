@@ -12,12 +12,16 @@ use Rattle.tables.proofs.layout.continues.Tie as tie
 -- Where a test is passed, the one before it.
 abbrev first : tie.Else-next-limit → tie.Start
 first c = c.before.before.before
+
 abbrev second : tie.Else-limit-next → tie.Else-next-limit
 second c = c.before.before.before
+
 abbrev third : tie.Else-limit-next-2 → tie.Else-limit-next
 third c = c.before.before.before
+
 abbrev fourth : tie.Else-limit-next-3 → tie.Else-limit-next-2
 fourth c = c.before.before.before
+
 of-relation : (c : tie.Else-next-limit) → let s = (first c).args in eqb s.next.relation s.limit.relation ≡ true
 of-relation c = let s = (first c).args in eq-eqb s.next.relation s.limit.relation c.if-next-limit.false
 

@@ -1,6 +1,5 @@
 -- `tables::layout::judge` meets its contract: each call that finds nothing is a law's premise at each later way out.
 use borrow.Author.Rules.{rules}
-use borrow.Author.Tests.{not-true, not-false}
 use mathlib.Core.Path.{◌≡◌, sym, ◌∙◌}
 use mathlib.Core.Bool.{true}
 use Rattle.causes.specs.Causes.{widths_fit}
@@ -20,9 +19,11 @@ store c = c.before.before.before.before.before.args.s
 -- Its count is in range.
 abbrev counted : tie.After-is_orderly → tie.Else-count-gt-PLACES
 counted c = c.before.before.before.before
+
 -- Its records are in order.
 abbrev ordered : tie.After-rest_blank → tie.Else-not-is_orderly
 ordered c = c.before.before.before
+
 widths_right : (c : tie.Else-not-widths_are_right) → widths_fit (store c).widths ≡ true
 widths_right c = sym c.before.widths_are_right.ensures ∙ c.if-not-widths_are_right.false
 
