@@ -219,7 +219,7 @@ def check_each(programs, problems):
         if line and line[0] != "#":
             name, _, rest = line.partition(":")
             deps[name.split()[0]], deps[name.split()[0] + " kind"] = rest.split(), name.split()[1:]
-    with concurrent.futures.ThreadPoolExecutor(os.cpu_count()) as pool:
+    with concurrent.futures.ThreadPoolExecutor(int(os.environ.get("TRIES", os.cpu_count() or 1))) as pool:
         for program, log in zip(programs, pool.map(lambda p: try_alone(p, deps), programs), strict=True):
             failed = failures(log)
             for fact, file in program.facts:
