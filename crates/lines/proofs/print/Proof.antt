@@ -96,6 +96,7 @@ module _ {bs room : List ℕ} {l : Listing} {after out : List ℕ} (k : Ready bs
 
 abbrev start : tie.After-numbers-2-1 → tie.Start
 start c = c.before.before.before.before.before
+
 abbrev lent : tie.After-numbers-2-1 → List ℕ
 lent c = c.before.before.before.room-numbers.result
 
@@ -118,6 +119,7 @@ ready c s = record { room-size = ap length c.before.before.before.room-numbers.e
 -- The query is accepted; the first two lines are written.
 abbrev accepted : tie.After-head-at → tie.In_default
 accepted c = c.before.before.before
+
 listing : (c : tie.After-head-at) → let r = (accepted c).before in Ready (start r).args.input.now (lent r) r.find-listing.result r.find-listing.new.out (start r).args.out.now
 listing c = ready (accepted c).before (sized-head c.before)
 

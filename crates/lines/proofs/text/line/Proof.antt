@@ -32,6 +32,7 @@ module _ (at middle end : ℕ) (text ns out mid now : List ℕ) (w : (middle, mi
 module _ (c : tie.After-numbers-end) where
   abbrev worded : tie.After-bytes-middle
   worded = c.before.before.before.before
+
   abbrev start : tie.Start
   start = worded.before.before.before.before.before
 
