@@ -125,7 +125,7 @@ def programs_of(path):
 
 
 def all_programs(problems):
-    order = [line.split(":")[0] for line in (ROOT / "crates.txt").read_text().split("\n") if line and line[0] != "#"]
+    order = [line.split(":")[0].split()[0] for line in (ROOT / "crates.txt").read_text().split("\n") if line and line[0] != "#"]
     found = []
     for crate in order:
         names = set()
