@@ -11,6 +11,7 @@ use Rattle.host.proofs.palmrummy_answer.Tie as tie
 -- The list is asked for.
 abbrev start : tie.After-find_bytes-listing → tie.Start
 start c = c.before.before.before.before
+
 abbrev bytes : tie.After-find_bytes-listing → List ℕ
 bytes c = (start c).args.input.now
 

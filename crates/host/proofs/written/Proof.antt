@@ -62,6 +62,7 @@ module _ (v : Verdict) where
 -- The flag is chosen.
 abbrev start : tie.Joined-v → tie.Start
 start c = c.before.before.before.before
+
 flag-chosen : (c : tie.Joined-v) → c.if-v.reply ≡ flag (start c).args.v.safe
 flag-chosen c = ⊎_elim (λ w. w.reply-is ∙ ap flag (sym w.if-v.true)) (λ w. w.reply-is ∙ ap flag (sym w.if-v.false)) c.if-v.branch-raw
 
