@@ -1,7 +1,8 @@
 // A reader such as standard input, read to its end into a lent space. For the programs, which hand what was read to a function that decides what is printed.
 #![tactic(auto)]
 
-ghost use Rattle.std.specs.Prelude.{◌≤◌, length};
+ghost use Rattle.std.specs.Prelude.{◌≡◌, ◌≤◌, ◌<◌, true, false, length, take, drop};
+ghost use Rattle.std.specs.Io.KnownBytes.{Consumes, IsAtEnd};
 
 use std::io::{ErrorKind, Read};
 
@@ -19,7 +20,12 @@ pub struct Progress {
 // One read more, into the space past the bytes that are there. One that a signal interrupts before it brings a byte is made again.
 fn read_on<R: Read>(input: &mut R, space: &mut [u8], from: usize) -> Progress
     requires { from ≤ length space.old }
-    ensures { result.bytes ≤ length space.new }
+    ensures room { length space.new ≡ length space.old }
+    ensures upper_bound { result.bytes ≤ length space.new }
+    ensures lower_bound { from ≤ result.bytes }
+    ensures before { take from space.new ≡ take from space.old }
+    ensures bytes { Consumes (R.remaining input.old) (R.remaining input.new) (drop from (take result.bytes space.new)) }
+    ensures end { result.ended ≡ true → result.bytes < length space.new → IsAtEnd (R.remaining input.new) }
 {
     if from == space.len() {
         return Progress {
@@ -44,7 +50,10 @@ fn read_on<R: Read>(input: &mut R, space: &mut [u8], from: usize) -> Progress
 
 // Reads until the input ends, the space is full or a read fails.
 pub fn read_all<R: Read>(input: &mut R, space: &mut [u8]) -> Progress
-    ensures { result.bytes ≤ length space.new }
+    ensures upper_bound { result.bytes ≤ length space.new }
+    ensures bytes { Consumes (R.remaining input.old) (R.remaining input.new) (take result.bytes space.new) }
+    ensures end { result.ended ≡ true → result.bytes < length space.new → IsAtEnd (R.remaining input.new) }
+    ensures read_or_failed { result.failed ≡ false → result.ended ≡ true }
 {
     let mut p = Progress {
         bytes: 0,

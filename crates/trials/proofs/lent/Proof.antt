@@ -5,8 +5,6 @@ use lib.ListN.{length}
 use borrow.Author.Rules.{rules}
 use Rattle.trials.proofs.lent.Statement.{statement}
 use Rattle.trials.proofs.lent.Tie as tie
-use Rattle.trials.proofs.lent.Reads as reads
-use Rattle.trials.proofs.lent.Lts as lts
 
 abbrev invariant-loop : tie.invariant-loop-i
 invariant-loop room numbers₀ i₀ numbers i = (i ≤ room) × (room ≤ 8192) × (length numbers ≡ 8192)

@@ -7,13 +7,6 @@ use native.Mathlib.Omega.{arith}
 use borrow.Author.Rules.{rules}
 use Rattle.trials.proofs.run_answer.Statement.{statement}
 use Rattle.trials.proofs.run_answer.Tie as tie
-use Rattle.trials.proofs.run_answer.Reads as reads
-use Rattle.trials.proofs.run_answer.Lts as lts
-use Rattle.trials.proofs.answer_in.Reads as answer-in-reads
-use Rattle.trials.proofs.byte.Reads as byte-Reads
-use Rattle.trials.proofs.lent.Reads as Lent-reads
-use Rattle.trials.proofs.pair.Reads as Pair-reads
-use Rattle.trials.proofs.store_of.Reads as store-of-reads
 
 pair-requires : tie.Need-pair-requires
 pair-requires c κs = search rules

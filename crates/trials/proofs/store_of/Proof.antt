@@ -3,12 +3,6 @@ use Prim.Native.Nat.{◌-◌, ◌≤◌, ◌<◌}
 use borrow.Author.Rules.{rules}
 use Rattle.trials.proofs.store_of.Statement.{statement}
 use Rattle.trials.proofs.store_of.Tie as tie
-use Rattle.trials.proofs.store_of.Reads as reads
-use Rattle.trials.proofs.store_of.Lts as lts
-use Rattle.tables.proofs.place.write.Reads as write-reads
-use Rattle.trials.proofs.pair.Reads as Pair-reads
-use Rattle.trials.proofs.record_of.Reads as record-of-reads
-use Rattle.trials.proofs.widths_of.Reads as widths-of-reads
 
 abbrev invariant-loop : tie.invariant-loop-i
 invariant-loop s from widths count given relations₀ values₀ i₀ relations values i = (i ≤ 256) × (from < 100)

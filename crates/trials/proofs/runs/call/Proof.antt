@@ -7,13 +7,6 @@ use native.Mathlib.Omega.{arith}
 use borrow.Author.Rules.{rules}
 use Rattle.trials.proofs.runs.call.Statement.{statement}
 use Rattle.trials.proofs.runs.call.Tie as tie
-use Rattle.trials.proofs.runs.call.Reads as reads
-use Rattle.trials.proofs.runs.call.Lts as lts
-use Rattle.trials.proofs.byte.Reads as byte-Reads
-use Rattle.trials.proofs.lent.Reads as Lent-reads
-use Rattle.trials.proofs.pair.Reads as Pair-reads
-use Rattle.trials.proofs.record_of.Reads as record-of-reads
-use Rattle.trials.proofs.runs.changed.Reads as changed-reads
 
 add-pair : tie.Need-overflow_add-at
 add-pair c = search rules

@@ -4,9 +4,6 @@ use borrow.Author.Rules.{rules}
 use Rattle.standing.specs.View.{max_rows}
 use Rattle.trials.proofs.runs.rows_of.Statement.{statement}
 use Rattle.trials.proofs.runs.rows_of.Tie as tie
-use Rattle.trials.proofs.runs.rows_of.Reads as reads
-use Rattle.trials.proofs.runs.rows_of.Lts as lts
-use Rattle.trials.proofs.quad.Reads as quad-reads
 
 abbrev invariant-loop : tie.invariant-loop-i
 invariant-loop s from count given values₀ i₀ values i = (i ≤ 4 * max_rows) × (from < 900000) × (given < 65536)
