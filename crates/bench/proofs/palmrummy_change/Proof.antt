@@ -12,18 +12,12 @@ use Rattle.bench.proofs.Theory.Entry.Laws.{change-over, change-at, change-refuse
 use Rattle.bench.proofs.palmrummy_change.Statement.{statement}
 use Rattle.bench.proofs.palmrummy_change.Tie as tie
 
--- The list made of the arrays has four places for columns.
-places : (v : tie.After-view_of-view) → length v.view_of-view.result.columns.variables ≡ 4
-places v = search rules
-
--- At most `max_rows` rows joined, and at most as many left.
-abbrev changed : tie.In_default → tie.After-change-changed
-changed c = c.before.before.before.before.before.before
-few : (c : tie.In_default) → ((changed c).change.result.joined ≤ max_rows) × ((changed c).change.result.left ≤ max_rows)
+-- At most `max_rows` rows joined, and at most as many left, since the list made of the arrays has four places for columns.
+few : (c : tie.In_default) → (c.change-changed.result.joined ≤ max_rows) × (c.change-changed.result.left ≤ max_rows)
 few c =
-    let r = (changed c).before.before.before in
-    let s = r.before.before.before.before.before.before.args in
-    subst⁻¹ FewTold (changed c).change.ensures (few-told (action_of s.removal r.record_of.result) r.before.before.store_of.result r.before.view_of.result s.bytes.now s.joined.now s.left.now (places r.before))
+    let s = c.args in
+    let p : length c.view_of-view.result.columns.variables ≡ 4 = search rules in
+    subst⁻¹ FewTold c.change-changed.ensures (few-told (action_of s.removal c.record_of-record.result) c.store_of-store.result c.view_of-view.result s.bytes.now s.joined.now s.left.now p)
 
 store-of-requires : tie.Need-store_of-store-requires
 store-of-requires c κs = search rules
@@ -42,11 +36,8 @@ enum-known-answer c = search rules
 
 refused-requires : tie.Need-refused-requires
 refused-requires c κs =
-    let a = c.before in
-    let g = a.before.before.before.before.before.before in
-    let r = g.before.before.before in
-    let s = r.before.before.before.before.before.before.args in
-    change-at g.change-changed.ensures (change-place (action_of s.removal r.record_of-record.result) r.before.before.store_of-store.result r.before.view_of-view.result s.bytes.now s.joined.now s.left.now) _ _ a.answer-1.given.1
+    let s = c.args in
+    change-at c.change-changed.ensures (change-place (action_of s.removal c.record_of-record.result) c.store_of-store.result c.view_of-view.result s.bytes.now s.joined.now s.left.now) _ _ c.in-Refused.is
 
 same_length : tie.Need-shape_of-joined-in-Refused
 same_length c = search rules
@@ -56,12 +47,9 @@ same-length-2 c = search rules
 
 returns : tie.Need-returns-in-Refused
 returns c =
-    let a = c.before.before in
-    let g = a.before.before.before.before.before.before in
-    let r = g.before.before.before in
-    let s = r.before.before.before.before.before.before.args in
-    let e = change-over r.before.before.store_of-store.ensures r.before.view_of-view.ensures r.record_of-record.ensures s.removal s.bytes.now s.joined.now s.left.now in
-    change-refused (g.change-changed.ensures ∙ e) _ _ _ a.answer-1.given.1 c.refused.ensures
+    let s = c.args in
+    let e = change-over c.store_of-store.ensures c.view_of-view.ensures c.record_of-record.ensures s.removal s.bytes.now s.joined.now s.left.now in
+    change-refused (c.change-changed.ensures ∙ e) _ _ _ c.in-Refused.is c.refused.ensures
 
 enum_told : tie.Need-enum_told-1
 enum_told c = search rules
@@ -80,11 +68,9 @@ same-length-4 c = search rules
 
 returns-2 : tie.Need-returns
 returns-2 c =
-    let g = changed c in
-    let r = g.before.before.before in
-    let s = r.before.before.before.before.before.before.args in
-    let e = change-over r.before.before.store_of-store.ensures r.before.view_of-view.ensures r.record_of-record.ensures s.removal s.bytes.now s.joined.now s.left.now in
-    change-done (g.change-changed.ensures ∙ e) c.enum_told-1.given.1
+    let s = c.args in
+    let e = change-over c.store_of-store.ensures c.view_of-view.ensures c.record_of-record.ensures s.removal s.bytes.now s.joined.now s.left.now in
+    change-done (c.change-changed.ensures ∙ e) c.in_default.is
 
 pub palmrummy_change_spec : {M : Type 1} → statement M
 palmrummy_change_spec =

@@ -17,14 +17,14 @@ enum-known-answer c = search rules
 
 refused-requires : tie.Need-refused-requires
 refused-requires c κs =
-    let a = c.before in let f = a.before.before.before.before in let s = f.before.before.before.before.before.args in
-    found_at f.find-found.ensures (found-place f.before.before.store_of-store.result s.bytes.now s.wanted s.out.now) _ _ a.answer-1.given.1
+    let s = c.args in
+    found_at c.find-found.ensures (found-place c.store_of-store.result s.bytes.now s.wanted s.out.now) _ _ c.in-Refused.is
 
 same_length : tie.Need-shape_of-out-in-Refused
 same_length c = search rules
 
 returns : tie.Need-returns-in-Refused
-returns c = let a = c.before.before in let f = a.before.before.before.before in let s = f.before.before.before.before.before.args in coded-refused (f.find-found.ensures ∙ found-over f.before.before.store_of-store.ensures s.bytes.now s.wanted s.out.now) _ _ _ a.answer-1.given.1 c.refused.ensures
+returns c = let s = c.args in coded-refused (c.find-found.ensures ∙ found-over c.store_of-store.ensures s.bytes.now s.wanted s.out.now) _ _ _ c.in-Refused.is c.refused.ensures
 
 enum_told : tie.Need-enum_told-1
 enum_told c = search rules
@@ -33,13 +33,13 @@ same-length-2 : tie.Need-shape_of-out-then-found
 same-length-2 c = search rules
 
 returns-2 : tie.Need-returns-then-found
-returns-2 c = let a = c.before in let f = a.before.before.before.before in let s = f.before.before.before.before.before.args in coded-endless (f.find-found.ensures ∙ found-over f.before.before.store_of-store.ensures s.bytes.now s.wanted s.out.now) a.enum_told-1.given.1 c.if-found.true
+returns-2 c = let s = c.args in coded-endless (c.find-found.ensures ∙ found-over c.store_of-store.ensures s.bytes.now s.wanted s.out.now) c.in_default.is c.if-found.true
 
 same-length-3 : tie.Need-shape_of-out
 same-length-3 c = search rules
 
 returns-3 : tie.Need-returns
-returns-3 c = let a = c.before in let f = a.before.before.before.before in let s = f.before.before.before.before.before.args in coded-rows (f.find-found.ensures ∙ found-over f.before.before.store_of-store.ensures s.bytes.now s.wanted s.out.now) a.enum_told-1.given.1 c.if-found.false
+returns-3 c = let s = c.args in coded-rows (c.find-found.ensures ∙ found-over c.store_of-store.ensures s.bytes.now s.wanted s.out.now) c.in_default.is c.if-found.false
 
 pub palmrummy_find_spec : {M : Type 1} → statement M
 palmrummy_find_spec =

@@ -21,6 +21,7 @@ places s = search rules
 module _ (c : tie.After-verdict-at) where
   abbrev start : tie.Start
   start = c.before.before.before
+
   abbrev judged : List ℕ
   judged = line (cond start.args.safe word_safe word_unsafe) []
 

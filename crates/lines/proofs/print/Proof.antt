@@ -96,14 +96,15 @@ module _ {bs room : List ℕ} {l : Listing} {after out : List ℕ} (k : Ready bs
 
 abbrev start : tie.After-numbers-2-1 → tie.Start
 start c = c.before.before.before.before.before
+
 abbrev lent : tie.After-numbers-2-1 → List ℕ
 lent c = c.before.before.before.room-numbers.result
 
 -- The buffer's size is known where it is lent to the next call.
-sized-refusal : (c : tie.After-refusal-arg-1) → length (start c.before.before.before.before).args.out.now ≡ 65536
+sized-refusal : (c : tie.After-refusal-arg-1) → length (start c.before.before).args.out.now ≡ 65536
 sized-refusal c = search rules
 
-sized-head : (c : tie.After-head-arg-1) → length (start c.before.before.before.before).args.out.now ≡ 65536
+sized-head : (c : tie.After-head-arg-1) → length (start c.before.before.before).args.out.now ≡ 65536
 sized-head c = search rules
 
 held : (c : tie.After-numbers-2-1) → length c.before.find-listing.new.out ≡ 4096
@@ -118,8 +119,9 @@ ready c s = record { room-size = ap length c.before.before.before.room-numbers.e
 -- The query is accepted; the first two lines are written.
 abbrev accepted : tie.After-head-at → tie.In_default
 accepted c = c.before.before.before
-listing : (c : tie.After-head-at) → let r = (accepted c).before.before in Ready (start r).args.input.now (lent r) r.before.find.result r.before.find.last.1.0 (start r).args.out.now
-listing c = ready (accepted c).before.before (sized-head c.before)
+
+listing : (c : tie.After-head-at) → let r = (accepted c).before in Ready (start r).args.input.now (lent r) r.find-listing.result r.find-listing.new.out (start r).args.out.now
+listing c = ready (accepted c).before (sized-head c.before)
 
 room-requires : tie.Need-room-numbers-requires
 room-requires c κs = search rules
@@ -134,48 +136,48 @@ enum-known-answer : tie.Need-enum_known-answer
 enum-known-answer c = search rules
 
 refusal-requires : tie.Need-refusal-requires
-refusal-requires c κs = let a = c.before.before in let k = ready a.before.before (sized-refusal c) in (place-fits k _ _ a.answer-1.given.1, omega (arith, k.size))
+refusal-requires c κs = let k = ready c.before.before (sized-refusal c) in (place-fits k _ _ c.in-Refused.is, omega (arith, k.size))
 
 returns : tie.Need-returns-in-Refused
-returns c = let a = c.before.before.before in refused (ready a.before.before (sized-refusal c.before)) _ _ c.refusal.result c.refusal.new.out a.answer-1.given.1 c.refusal.ensures
+returns c = refused (ready c.before.before.before (sized-refusal c.before)) _ _ c.refusal.result c.refusal.new.out c.in-Refused.is c.refusal.ensures
 
 enum_told : tie.Need-enum_told-1
 enum_told c = search rules
 
 head-requires : tie.Need-head-at-requires
-head-requires c κs = let a = c.before.before in let k = ready a.before.before (sized-head c) in (few k a.enum_told-1.given.1, omega (arith, k.size))
+head-requires c κs = let k = ready c.before.before.before (sized-head c) in (few k c.in_default.is, omega (arith, k.size))
 
 endless-requires : tie.Need-endless-requires
 endless-requires c κs =
-    let d = c.before.before in let a = accepted d in
-    let e = head-ends (listing d) a.enum_told-1.given.1 d.head-at.result d.head-at.new.out d.head-at.ensures in
+    let d = c.before.before in
+    let e = head-ends (listing d) c.in_default.is d.head-at.result d.head-at.new.out d.head-at.ensures in
     (omega (arith, e), omega (arith, e))
 
 returns-2 : tie.Need-returns-then-listing
 returns-2 c =
-    let i = c.before.before in let d = i.before in let a = accepted d in
-    endless-done (listing d) a.enum_told-1.given.1 d.head-at.result d.head-at.new.out d.head-at.ensures c.endless.result c.endless.new.out i.if-listing.true c.endless.ensures
+    let i = c.before.before in let d = i.before in
+    endless-done (listing d) c.in_default.is d.head-at.result d.head-at.new.out d.head-at.ensures c.endless.result c.endless.new.out i.if-listing.true c.endless.ensures
 
 slice-aggregate-rows : tie.Need-slice_bounds-rows-end
 slice-aggregate-rows c = search rules
 
 rows-requires : tie.Need-rows-end-requires
 rows-requires c κs =
-    let i = c.before.before in let d = i.before in let a = accepted d in let k = listing d in
-    let e = head-ends k a.enum_told-1.given.1 d.head-at.result d.head-at.new.out d.head-at.ensures in
-    let f = fits k a.enum_told-1.given.1 i.if-listing.false in
+    let i = c.before.before in let d = i.before in let k = listing d in
+    let e = head-ends k c.in_default.is d.head-at.result d.head-at.new.out d.head-at.ensures in
+    let f = fits k c.in_default.is i.if-listing.false in
     (f.0, omega (arith, f.1, k.held), omega (arith, k.held), omega (arith, e, f), omega (arith, e))
 
 total-requires : tie.Need-total-requires
 total-requires c κs =
-    let b = c.before in let i = b.before.before.before in let d = i.before in let a = accepted d in let k = listing d in
-    let e = rows_end k a.enum_told-1.given.1 d.head-at.result d.head-at.new.out d.head-at.ensures i.if-listing.false b.rows-end.result b.rows-end.new.out b.rows-end.ensures in
-    ((fits k a.enum_told-1.given.1 i.if-listing.false).0, omega (arith, e), omega (arith, e))
+    let b = c.before in let i = b.before.before.before in let d = i.before in let k = listing d in
+    let e = rows_end k c.in_default.is d.head-at.result d.head-at.new.out d.head-at.ensures i.if-listing.false b.rows-end.result b.rows-end.new.out b.rows-end.ensures in
+    ((fits k c.in_default.is i.if-listing.false).0, omega (arith, e), omega (arith, e))
 
 returns-3 : tie.Need-returns
 returns-3 c =
-    let b = c.before.before in let i = b.before.before.before in let d = i.before in let a = accepted d in
-    rows-done (listing d) a.enum_told-1.given.1 d.head-at.result d.head-at.new.out d.head-at.ensures i.if-listing.false b.rows-end.result b.rows-end.new.out b.rows-end.ensures c.total.result c.total.new.out c.total.ensures
+    let b = c.before.before in let i = b.before.before.before in let d = i.before in
+    rows-done (listing d) c.in_default.is d.head-at.result d.head-at.new.out d.head-at.ensures i.if-listing.false b.rows-end.result b.rows-end.new.out b.rows-end.ensures c.total.result c.total.new.out c.total.ensures
 
 pub print_spec : {M : Type 1} → statement M
 print_spec =

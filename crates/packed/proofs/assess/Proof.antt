@@ -21,6 +21,7 @@ constant-fits c k = search rules
 -- It is accepted.
 abbrev taken : tie.In_default → tie.After-take-input
 taken c = c.before.before.before.before
+
 -- ---- the needs
 
 take-requires : tie.Need-take-input-requires

@@ -16,6 +16,7 @@ use Rattle.packed.proofs.find.Tie as tie
 -- The input is assessed.
 abbrev start : tie.After-assess-assessment → tie.Start
 start c = c.before.before.before
+
 abbrev bytes : tie.After-assess-assessment → List ℕ
 bytes c = (start c).args.bytes.now
 
@@ -28,6 +29,7 @@ constant-fits c k = search rules
 -- It is accepted.
 abbrev assessed : tie.In_default → tie.After-assess-assessment
 assessed c = c.before.before
+
 -- ---- the needs
 
 assess-requires : tie.Need-assess-assessment-requires

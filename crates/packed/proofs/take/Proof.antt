@@ -41,6 +41,7 @@ bytes c = c.before.before.args.bytes.now
 -- It is whole.
 abbrev measured : tie.Else-not-extent → tie.After-measure-extent
 measured c = c.before.before
+
 whole : (c : tie.Else-not-extent) → is_whole (bytes (measured c)) ≡ true
 whole c =
     let m = measured c in
@@ -59,6 +60,7 @@ reaches c = let h = whole-lengths (bytes (measured c)) (whole c) in (omega (arit
 -- The parts of its head are at hand.
 abbrev apart : tie.After-widths-1 → tie.Else-not-extent
 apart c = c.before.before
+
 -- The query is read.
 abbrev entire : tie.After-read-reading → tie.Else-not-extent
 entire c = apart c.before.before
@@ -75,6 +77,7 @@ read c = ap (λ v. v.answer) (sym (reading c.before)) ∙ c.in_default.is
 -- The store is filled.
 abbrev queried : tie.After-fill-filled → tie.After-read-reading
 queried c = c.before.before
+
 filling : (c : tie.After-fill-filled) → let bs = bytes (measured (entire (queried c))) in c.fill-filled.result ≡ fill_reply (widths_in bs) (records_in bs)
 filling c =
     let r = queried c in let w = entire r in let bs = bytes (measured w) in

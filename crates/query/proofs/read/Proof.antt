@@ -64,6 +64,7 @@ trees s = tree_checks (widths s) (count_of_constants (bytes s)) (nodes_of (bytes
 -- The header is passed.
 abbrev start : tie.In_default → tie.Start
 start c = c.before.before.before
+
 passed : (c : tie.In_default) → Done ≡ first_cause (header_checks (widths (start c)) (bytes (start c)))
 passed c = sym c.in_default.is ∙ c.header-header.ensures
 
@@ -73,12 +74,14 @@ headed c = header-done (widths (start c)) (bytes (start c)) Done (passed c) refl
 -- The counts are read.
 abbrev told : tie.After-constant_count-k → tie.In_default
 told c = c.before.before
+
 fits : (c : tie.After-constant_count-k) → Fitting (bytes (start (told c))) c.before.node_count-n.result c.constant_count-k.result
 fits c = fitting (headed (told c)) c.before.node_count-n.result c.constant_count-k.result c.before.node_count-n.ensures c.constant_count-k.ensures
 
 -- The words are read.
 abbrev counts : tie.After-words-2 → tie.After-constant_count-k
 counts c = c.before.before.before.before.before
+
 abbrev nodes : tie.After-words-2 → List ℕ
 nodes c = c.words-2.new.out
 
@@ -88,6 +91,7 @@ constants c = c.words.new.out
 -- The nodes are judged.
 abbrev words : tie.After-tree-tree → tie.After-words-2
 words c = c.before.before.before.before
+
 abbrev began : tie.After-tree-tree → tie.Start
 began c = start (told (counts (words c)))
 
@@ -100,6 +104,7 @@ placed c = sym c.in_default-tree.is ∙ judged c.before
 -- The columns are found.
 abbrev tree : tie.After-columns-columns → tie.After-tree-tree
 tree c = c.before.before.before
+
 found : (c : tie.After-columns-columns) → c.columns-columns.result ≡ columns_found (columns (root (nodes_of (bytes (began (tree c))))))
 found c = let w = words (tree c) in found-columns (fits (counts w)) (nodes w) w.words-2.ensures c.columns-columns.result c.columns-columns.ensures
 

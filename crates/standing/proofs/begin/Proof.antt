@@ -5,9 +5,6 @@ use Rattle.standing.proofs.Theory.Change.Laws.{begun-refused, begun-reading}
 use Rattle.standing.proofs.begin.Statement.{statement}
 use Rattle.standing.proofs.begin.Tie as tie
 
--- The store is judged.
-abbrev start : tie.After-judge-judged → tie.Start
-start c = c.before.before
 judge-requires : tie.Need-judge-judged-requires
 judge-requires c κs = search rules
 
@@ -19,8 +16,8 @@ refused-requires c κs = search rules
 
 returns : tie.Need-returns-in-Refused
 returns c =
-    let t = c.before.before in let j = t.before.before in let a = (start j).args in
-    c.refused.ensures ∙ begun-refused a.store a.bytes.now _ _ (sym j.judge-judged.ensures ∙ t.judged-1.given.1)
+    let a = c.args in
+    c.refused.ensures ∙ begun-refused a.store a.bytes.now _ _ (sym c.judge-judged.ensures ∙ c.in-Refused.is)
 
 enum_told : tie.Need-enum_told-1
 enum_told c = search rules
@@ -30,8 +27,8 @@ read-requires c κs = search rules
 
 returns-2 : tie.Need-returns
 returns-2 c =
-    let t = c.before.before in let j = t.before.before in let a = (start j).args in
-    c.read.ensures ∙ begun-reading a.store a.bytes.now (sym j.judge-judged.ensures ∙ t.enum_told-1.given.1)
+    let a = c.args in
+    c.read.ensures ∙ begun-reading a.store a.bytes.now (sym c.judge-judged.ensures ∙ c.in_default.is)
 
 pub begin_spec : {M : Type 1} → statement M
 begin_spec = tie.close (tie.spec judge-requires enum-known-judged refused-requires returns enum_told read-requires returns-2)

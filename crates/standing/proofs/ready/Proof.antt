@@ -29,9 +29,9 @@ bytes c = (start c).args.bytes.now
 
 -- They aren't refused: the query is read.
 abbrev beginning : tie.In_default → tie.After-begin-reading
-beginning c = c.before.before.before
+beginning c = c.before.before
 done : (c : tie.In_default) → let b = beginning c in first_cause (begin_checks (store b) (bytes b)) ≡ Done
-done c = let b = beginning c in begun-cause (store b) (bytes b) Done (ap (λ r. r.answer) (sym b.begin-reading.ensures) ∙ c.enum_told-in_default-1.given.1)
+done c = let b = beginning c in begun-cause (store b) (bytes b) Done (ap (λ r. r.answer) (sym b.begin-reading.ensures) ∙ c.in_default.is)
 
 reads : (c : tie.In_default) → let b = beginning c in b.begin-reading.result ≡ read_of (store b).widths (bytes b)
 reads c = let b = beginning c in b.begin-reading.ensures ∙ begun-is (store b) (bytes b) (done c)
@@ -52,8 +52,8 @@ enum_told c = search rules
 
 returns : tie.Need-returns-in-Refused
 returns c =
-    let b = c.before.before.before in let was = c.enum_told-1.given in let n = was.0.0 in let p = was.0.1.0 in let e = b.begin-reading.ensures in
-    e ∙ readied-refused (store b) (bytes b) (start b).args.view n p (begun-cause (store b) (bytes b) (Refused n p) (ap (λ r. r.answer) (sym e) ∙ was.1))
+    let b = c.before.before in let was = c.in-Refused in let n = was.field-0 in let p = was.field-1 in let e = b.begin-reading.ensures in
+    e ∙ readied-refused (store b) (bytes b) (start b).args.view n p (begun-cause (store b) (bytes b) (Refused n p) (ap (λ r. r.answer) (sym e) ∙ was.is))
 
 enum-told-2 : tie.Need-enum_told-in_default
 enum-told-2 c = search rules

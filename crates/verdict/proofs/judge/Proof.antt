@@ -33,6 +33,7 @@ constant-fits c i = search rules
 -- It is accepted.
 abbrev reading : tie.In_default → tie.After-read-reading
 reading c = c.before.before.before
+
 abbrev query : tie.In_default → Query
 query c = (reading c).read-reading.result.query
 

@@ -54,8 +54,10 @@ is-form c =
 -- The sets of its nodes are found.
 abbrev formed : tie.After-generated-sets → tie.After-form_of-form
 formed c = c.before.before.before
+
 abbrev sets : tie.After-generators-generators → tie.After-generated-sets
 sets c = c.before.before.before.before.before.before
+
 root-set : (c : tie.After-generators-generators) → let f = (formed (sets c)).form_of-form.result in get_or (sets c).generated-sets.result.plains (f.node_count - 1) 0 ≡ plain_bits f.nodes (f.node_count - 1)
 root-set c =
     let f = (formed (sets c)).form_of-form.result in
@@ -64,6 +66,7 @@ root-set c =
 -- All is found.
 abbrev reported : tie.After-unranged-unranged → tie.After-generators-generators
 reported c = c.before.before.before.before
+
 finished : (c : tie.After-unranged-unranged) (b : Bool) → let u = c.before.before.before.ungenerated-ungenerated.result in let w = c.unranged-unranged.result in b ≡ (eqb u 0 && eqb w 0)
     → let f = formed (sets (reported c)) in
     reply f.form_of-form.result (given-columns f.before) (reported c).generators-generators.result u w b ≡ judged (query f.before)

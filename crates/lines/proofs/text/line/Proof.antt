@@ -32,6 +32,7 @@ module _ (at middle end : ℕ) (text ns out mid now : List ℕ) (w : (middle, mi
 module _ (c : tie.After-numbers-end) where
   abbrev worded : tie.After-bytes-middle
   worded = c.before.before.before.before
+
   abbrev start : tie.Start
   start = worded.before.before.before.before.before
 
@@ -43,9 +44,9 @@ module _ (c : tie.After-numbers-end) where
 
   room : (c.numbers-end.result + 1 ≤ length c.numbers-end.new.out) × (c.numbers-end.result ≤ 300000)
   room =
-      let a = start.args in let w = worded.bytes in let n = c.numbers-end in
-      let e = ends a.at w.result n.result a.text.now listed a.out.now w.last.1.0 n.new.1.1.1.0 w.ensures n.ensures in
-      let k = kept a.at w.result n.result a.text.now listed a.out.now w.last.1.0 n.new.1.1.1.0 w.ensures n.ensures in
+      let a = start.args in let w = worded.bytes-middle in let n = c.numbers-end in
+      let e = ends a.at w.result n.result a.text.now listed a.out.now w.new.out n.new.out w.ensures n.ensures in
+      let k = kept a.at w.result n.result a.text.now listed a.out.now w.new.out n.new.out w.ensures n.ensures in
       (omega (arith, e, k, count), omega (arith, e, count))
 
 bytes-requires : tie.Need-bytes-middle-requires
@@ -54,8 +55,8 @@ bytes-requires c κs = search rules
 numbers-requires : tie.Need-numbers-end-requires
 numbers-requires c κs =
     let d = c.before.before.before in let w = d.bytes-middle in let a = d.before.before.before.before.before.args in
-    let e = wrote-end a.at w.result a.text.now a.out.now w.new.1.0 w.ensures in
-    let k = wrote-length a.at w.result a.text.now a.out.now w.new.1.0 w.ensures in
+    let e = wrote-end a.at w.result a.text.now a.out.now w.new.out w.ensures in
+    let k = wrote-length a.at w.result a.text.now a.out.now w.new.out w.ensures in
     (omega arith, omega arith, omega (arith, e, k), omega (arith, e))
 
 slice-write-out : tie.Need-bounds-out-end
@@ -66,13 +67,13 @@ add-result c = record { fits = omega (arith, (room c.before.before).1) }
 
 same_length : tie.Need-shape_of-out
 same_length c =
-    let d = c.before.before in let a = (start d).args in let w = (worded d).bytes in let n = d.numbers-end in
-    simp length-set (kept a.at w.result n.result a.text.now (listed d) a.out.now w.last.1.0 n.new.1.1.1.0 w.ensures n.ensures)
+    let d = c.before.before in let a = (start d).args in let w = (worded d).bytes-middle in let n = d.numbers-end in
+    simp length-set (kept a.at w.result n.result a.text.now (listed d) a.out.now w.new.out n.new.out w.ensures n.ensures)
 
 returns : tie.Need-returns
 returns c =
-    let d = c.before.before in let a = (start d).args in let w = (worded d).bytes in let n = d.numbers-end in
-    fed a.at w.result n.result a.text.now (listed d) a.out.now w.last.1.0 n.new.1.1.1.0 w.ensures n.ensures
+    let d = c.before.before in let a = (start d).args in let w = (worded d).bytes-middle in let n = d.numbers-end in
+    fed a.at w.result n.result a.text.now (listed d) a.out.now w.new.out n.new.out w.ensures n.ensures
 
 pub line_spec : {M : Type 1} → statement M
 line_spec =

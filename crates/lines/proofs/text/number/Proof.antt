@@ -28,12 +28,12 @@ digits-requires c κs = let a = c.before.before.args in (omega arith, omega (ari
 same_length : tie.Need-shape_of-out
 same_length c =
     let d = c.before.before.digits in let a = c.before.before.before.before.before.args in
-    wrote-length (a.at + 1) d.result (digits 10 a.n) (set a.out.now a.at 32) d.new.1.1.0 d.ensures ∙ length-set a.out.now a.at 32
+    wrote-length (a.at + 1) d.result (digits 10 a.n) (set a.out.now a.at 32) d.new.out d.ensures ∙ length-set a.out.now a.at 32
 
 returns : tie.Need-returns
 returns c =
     let d = c.before.before.digits in let a = c.before.before.before.before.before.args in
-    after-space a.at d.result a.n a.out.now d.new.1.1.0 d.ensures
+    after-space a.at d.result a.n a.out.now d.new.out d.ensures
 
 pub number_spec : {M : Type 1} → statement M
 number_spec =

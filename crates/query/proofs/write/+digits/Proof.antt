@@ -62,6 +62,7 @@ digits-claims t = (digits-below t, digits'.Post)
 module _ (t : ℕ) (c : digits-lts.Joined-n-ge10 (digits-claims t) (digits-at t) digits'.Post) where
   abbrev start : digits-lts.Start (digits-claims t) (digits-at t) digits'.Post
   start = c.before.before.before
+
   written : (c.if-n-ge10.end, c.if-n-ge10.out) ≡ wrote start.args.at (front start.args.k start.args.n) start.args.out.now
   written =
       let a = start.args in

@@ -47,6 +47,7 @@ constants-long c = search rules
 -- The constants are written.
 abbrev start : tie.After-words → tie.Start
 start c = c.before.before.before.before.before.before
+
 abbrev written : tie.After-words → List ℕ
 written c = c.words.new.out
 
@@ -61,6 +62,7 @@ still-long c = let a = (start c).args in ap length (pool-written c) ∙ length-o
 -- The nodes are written.
 abbrev constants : tie.After-words-2 → tie.After-words
 constants c = c.before.before.before.before.before
+
 query-written : (c : tie.After-words-2) → let a = (start (constants c)).args in c.words-2.new.out ≡ overlay a.at (bytes_of a.q) a.out.now
 query-written c =
     let w = constants c in let s = start w in let a = s.args in let q = a.q in let k = q.constant_count in let n = q.node_count in

@@ -12,6 +12,7 @@ use Rattle.rules.proofs.draft.append.Tie as tie
 
 abbrev start : tie.After-add-own → tie.Start
 start c = c.before.before
+
 own : (c : tie.After-add-own) → let a = (start c).args in c.add-own.result ≤ 64 → c.add-own.result ≡ a.n + 1
 own c h = let a = (start c).args in added-one a.w a.n a.nodes.now c.add-own.result c.add-own.new.nodes c.add-own.ensures h
 

@@ -8,6 +8,7 @@ use Rattle.rules.proofs.finish.finish.Tie as tie
 
 abbrev start : tie.After-is_missing → tie.Start
 start c = c.before.before.before.before.before
+
 -- ---- the needs
 
 refused-requires : tie.Need-refused-requires

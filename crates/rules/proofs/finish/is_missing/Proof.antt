@@ -1,14 +1,11 @@
 -- `rules::finish::is_missing` meets its contract: the four tests are one of the head's variables.
 use borrow.Author.Rules.{rules}
-use mathlib.Core.Path.{◌≡◌, ◌∙◌}
+use mathlib.Core.Path.{◌∙◌}
 use mathlib.Core.Bool.{false, not}
-use lib.ListN.{length, get_or}
+use lib.ListN.{get_or}
 use Rattle.rules.proofs.Theory.Code.Finish.Testing.{four-tested}
 use Rattle.rules.proofs.finish.is_missing.Statement.{statement}
 use Rattle.rules.proofs.finish.is_missing.Tie as tie
-
-places : (c : tie.Start) → length c.args.h.variables ≡ 4
-places c = search rules
 
 cast-some-of : tie.Need-overflow_cast-h
 cast-some-of c = let f = c.before.before.requires.few in search (rules, f)

@@ -1,9 +1,6 @@
 use borrow.Author.Rules.{rules}
 use Rattle.rules.proofs.mode.effect.Statement.{statement}
 use Rattle.rules.proofs.mode.effect.Tie as tie
-use Rattle.rules.proofs.mode.effect.Reads as reads
-use Rattle.rules.proofs.mode.effect.Lts as lts
-use Rattle.rules.proofs.mode.term_effect.Reads as term-effect-reads
 
 -- src/mode.rt:152:22
 enum_told : tie.Need-enum_told-1

@@ -1,11 +1,6 @@
 use borrow.Author.Rules.{rules}
 use Rattle.rules.proofs.mode.next.Statement.{statement}
 use Rattle.rules.proofs.mode.next.Tie as tie
-use Rattle.rules.proofs.mode.next.Reads as reads
-use Rattle.rules.proofs.mode.next.Lts as lts
-use Rattle.rules.proofs.mode.one.Reads as one-reads
-use Rattle.rules.proofs.mode.three.Reads as three-reads
-use Rattle.rules.proofs.mode.two.Reads as two-reads
 
 -- src/mode.rt:84:22
 enum_told : tie.Need-enum_told-1

@@ -1,8 +1,6 @@
 use borrow.Author.Rules.{rules}
 use Rattle.rules.proofs.mode.stage.Statement.{statement}
 use Rattle.rules.proofs.mode.stage.Tie as tie
-use Rattle.rules.proofs.mode.stage.Reads as reads
-use Rattle.rules.proofs.mode.stage.Lts as lts
 
 -- src/mode.rt:194:22
 enum_told : tie.Need-enum_told-1

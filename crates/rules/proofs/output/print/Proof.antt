@@ -17,6 +17,7 @@ use Rattle.rules.proofs.output.print.Tie as tie
 -- What packing handed back.
 abbrev start : tie.After-pack-p → tie.Start
 start c = c.before.before
+
 short : (c : tie.After-pack-p) → c.pack-p.result.size ≤ max_bytes
 short c = reply-short (start c).args.text.now c.pack-p.result c.pack-p.ensures
 
@@ -29,6 +30,7 @@ taken c = length-take-le c.pack-p.result.size c.pack-p.result.bytes (omega (arit
 -- Where the buffer is lent to the next call, its size is known.
 abbrev refused : tie.After-refusal-arg-1 → tie.After-pack-p
 refused c = c.before.before
+
 refused-sized : (c : tie.After-refusal-arg-1) → length (start (refused c)).args.out.now ≡ max_bytes
 refused-sized c = search rules
 

@@ -52,6 +52,7 @@ word-ends c =
 module _ (c : tie.After-digits-next) where
   abbrev worded : tie.After-bytes-middle
   worded = c.before.before.before.before
+
   abbrev start : tie.Start
   start = worded.before.before.before.before
 
@@ -64,6 +65,7 @@ module _ (c : tie.After-digits-next) where
 module _ (c : tie.After-digits-end) where
   abbrev digited : tie.After-digits-next
   digited = c.before.before.before.before
+
   place-room : (c.digits-end.result ≤ 32) × (length c.digits-end.new.out ≡ length (start digited).args.out.now)
   place-room =
       let a = (start digited).args in let b = (worded digited).bytes-middle in let d = digited.digits-next in let e = c.digits-end in

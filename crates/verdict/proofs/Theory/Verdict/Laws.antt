@@ -17,7 +17,7 @@ use Rattle.calculus.proofs.Theory.Formula.Laws.{node-below}
 use Rattle.calculus.specs.Propagation.{cp}
 use Rattle.calculus.specs.Generation.{Ap}
 use Rattle.calculus.specs.Ranging.{Ranged}
-use Rattle.calculus.specs.Generators.{Leaves, columns, plain, leaves, unranged_node, verdict, safe}
+use Rattle.calculus.specs.Generators.{Leaves, columns, plain, leaves, unranged_node, verdict}
 use Rattle.calculus.specs.Sources.{LeavesRight, generated_by, not_generated, AtNode}
 use Rattle.calculus.proofs.Theory.Generators.Laws.{plain_right, leaf-atom}
 use Rattle.calculus.specs.SafeRange.{SafeRange, Unranged, SafeBefore}

@@ -52,6 +52,7 @@ task t s = record { inside = s.requires.1.0.0; room = s.requires.1.0.1; zeros = 
 -- Where the fields are read: the start, and the node.
 abbrev begun : (t : ℕ) → propagate-lts.After-fields-f (propagate-claims t) (propagate-at t) propagate.Post → propagate-lts.Start (propagate-claims t) (propagate-at t) propagate.Post
 begun t c = c.before.before.before
+
 node : (t : ℕ) (c : propagate-lts.After-fields-f (propagate-claims t) (propagate-at t) propagate.Post) → NodeOf (get_or (begun t c).args.nodes.now (begun t c).args.i 0) c.fields-f.result
 node t c = c.fields-f.ensures
 
@@ -65,6 +66,7 @@ join-of t c =
 module _ (t : ℕ) (c : propagate-lts.After-propagate-middle (propagate-claims t) (propagate-at t) propagate.Post) where
   abbrev start : propagate-lts.Start (propagate-claims t) (propagate-at t) propagate.Post
   start = c.before.before.before.before.before.before
+
   abbrev read : NodeOf (get_or start.args.nodes.now start.args.i 0) c.before.before.before.fields-f.result
   read = node t c.before.before.before
 

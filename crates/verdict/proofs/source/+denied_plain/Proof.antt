@@ -146,6 +146,7 @@ module _ (t : ℕ) where
   -- Past the first test: where the function started, its node's fields, that node i generates x there, and that it is an or where the match names no other kind.
   abbrev denied-start : denied-lts.Else-not-is_in (denied-claims t) (denied_at t) denied.Post → denied-lts.Start (denied-claims t) (denied_at t) denied.Post
   denied-start c = c.before.before.before.before.before.before.before
+
   denied-node : (c : denied-lts.Else-not-is_in (denied-claims t) (denied_at t) denied.Post) → NodeOf (word (denied-start c).requires) c.before.before.before.before.fields-f.result
   denied-node c = c.before.before.before.before.fields-f.ensures
 
@@ -227,6 +228,7 @@ module _ (t : ℕ) where
   -- Past the first test: where the function started, its node's fields, and that node i generates x there.
   abbrev plain-start : plain-lts.Else-not-is_in (plain-claims t) (plain_at t) plain.Post → plain-lts.Start (plain-claims t) (plain_at t) plain.Post
   plain-start c = c.before.before.before.before.before.before.before
+
   plain-node : (c : plain-lts.Else-not-is_in (plain-claims t) (plain_at t) plain.Post) → NodeOf (word (plain-start c).requires) c.before.before.before.before.fields-f.result
   plain-node c = c.before.before.before.before.fields-f.ensures
 
@@ -251,6 +253,7 @@ module _ (t : ℕ) where
   -- The fourth tells whether the right child equates x with a variable that the left one generates.
   abbrev plain-third : plain-lts.After-is_in-in-4-3 (plain-claims t) (plain_at t) plain.Post → plain-lts.Else-is_in-2 (plain-claims t) (plain_at t) plain.Post
   plain-third c = c.before.before.before.before
+
   abbrev plain_by : plain-lts.After-is_in-in-4-3 (plain-claims t) (plain_at t) plain.Post → plain-lts.In-4 (plain-claims t) (plain_at t) plain.Post
   plain_by c = plain-and (plain-third c).before
 
