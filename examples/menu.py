@@ -9,7 +9,7 @@ menu.py show INPUT.bin                           a packed input as text
 For QUERY.txt all three take a rule, in a file whose name ends in .rule. For STORE.txt QUERY.txt they take one text: a store, a line `query` and a query or a
 rule; show prints such a text. run and explain also take INPUT.bin: one file that is empty or has a byte below 9 is a packed input. A file named - is standard
 input. run and explain call the proved engine, and so does pack where it packs a rule: a shared object that gcc makes from target/staticlib/libhost.a, which
-`rt staticlib host` makes; --library names another archive.
+`tools/build host` makes; --library names another archive.
 
 Store text, a thing a line, from # on a comment:
     relation 0 joint 2      relation 0 is called joint, and its records have 2 values; relations without such a line are absent

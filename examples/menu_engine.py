@@ -79,7 +79,7 @@ def shared_object(archive):
     own = "" if archive == ARCHIVE else "-" + hashlib.sha256(os.fsencode(archive)).hexdigest()[:16]
     made = BUILT / f"libpalmrummy{own}.so"
     if not archive.is_file():
-        raise NoEngine(f"{archive} is not there: run `rt staticlib host` at the top of the checkout, which makes target/staticlib/libhost.a")
+        raise NoEngine(f"{archive} is not there: run `tools/build host` at the top of the checkout, which makes target/staticlib/libhost.a")
     if made.is_file() and made.stat().st_mtime_ns > archive.stat().st_mtime_ns:
         return made
     made.parent.mkdir(parents=True, exist_ok=True)

@@ -4,7 +4,7 @@
 // is the scope paper; node, form, generator, safe-range and endless are its words. "Document 02" has the customer
 // requests; rule, head and goal are its words.
 //
-// Link with target/staticlib/libhost.a, which `rt staticlib host` makes.
+// Link with target/staticlib/libhost.a, which `tools/build host` makes.
 #ifndef PALMRUMMY_H
 #define PALMRUMMY_H
 

@@ -1,7 +1,7 @@
 #!/usr/bin/env python3
 """What must be believed: docs/BELIEVE.md against the definitions.
 
-The believed files are those of specs/ beside Lib.antt and Code.antt; laws stand in folders below them, and what only the proofs of the code need in specs/Code/.
+The believed files are those of specs/ beside Lib.antt and Code.antt. Laws stand in proofs/Theory/, and what only the proofs of the code need in specs/Code/.
 Fails where
 - the page leaves out a believed file, names another, or counts its lines otherwise;
 - a believed file cites a file of ours that isn't believed, or holds a proof;
@@ -22,7 +22,7 @@ CRATES = pathlib.Path("crates")
 NOT_LISTED = {"Lib.antt", "Code.antt"}
 # A definition opens with one of these; anything else in a believed file would be a proof.
 DEFINES = re.compile(r"(?:abbrev |unfoldable |pub data |pub record |data |record |abbrev mutual$|module )")
-CITATION = re.compile(r"(?:ghost )?use Rattle·([^.·]+)(?:·specs)?\.specs\.(?:specs\.)?([\w.]+?)\.\{([^}]*)\};?$")
+CITATION = re.compile(r"(?:ghost )?(?:pub )?use Rattle\.(\w+)\.(specs|proofs)\.([^\s{}]+)\.\{([^}]*)\};?$")
 
 
 def code_of(path):
@@ -42,20 +42,20 @@ def believed():
 
 
 def citations(lines):
-    """What the imports of a file bring in from files of ours: the name there, with the file."""
+    """What the imports of a file bring in from files of ours: the name there, with the file. What the toolchain makes of the code's structs is in no file."""
     found = {}
     for line in lines:
         match = CITATION.match(line)
-        if match and not match[2].startswith("declared"):
-            file = CRATES / match[1] / "specs" / (match[2].replace(".", "/") + ".antt")
-            for item in match[3].split(","):
+        if match and (CRATES / match[1]).is_dir() and not match[3].startswith("declared."):
+            file = CRATES / match[1] / match[2] / (match[3].replace(".", "/") + ".antt")
+            for item in match[4].split(","):
                 name, _, renamed = item.strip().partition(" as ")
                 found[renamed or name] = file
     return found
 
 
 def words(text):
-    return set(re.split(r"[\s(){},;⌜⌝]+", re.sub(r"\.(?=[a-z«])", " .", text)))
+    return set(re.split(r"[\s(){},;]+", re.sub(r"\.(?=[a-z«])", " .", text)))
 
 
 # ---- the believed files
@@ -93,7 +93,7 @@ def check_files(problems):
 
 def check_cited(problems, what, text, cited, path, local=()):
     for word in sorted(words(text)):
-        for name in (word, f"_{word}_"):
+        for name in (word, f"◌{word}◌"):
             if name in cited and cited[name] not in believed():
                 problems.append(f"{what} ({path}) cites {name} of {cited[name]}")
         if word in local:
@@ -152,9 +152,9 @@ def statements(path):
 
 
 def check_theorems(problems, promises):
-    names = set(re.findall(r"`([a-z][\w′-]*)`", promises.split("## Must-fail edits")[0]))
+    names = set(re.findall(r"`([a-z][\w'-]*)`", promises.split("## Must-fail edits")[0]))
     found = set()
-    for path in sorted(CRATES.glob("*/specs/*/**/*.antt")):
+    for path in sorted(CRATES.glob("*/proofs/Theory/**/*.antt")):
         laws, local = statements(path)
         for name in sorted(names & set(laws)):
             found.add(name)

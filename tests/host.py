@@ -3,7 +3,7 @@
 static library, plain and with sanitizers, and runs them; menu_line also over reads that are interrupted, cut short or
 fail (reads.c).
 
-host.py                 makes the library first, by `rt staticlib host`
+host.py                 makes the library first, by `tools/build host`
 host.py --library PATH  takes this library
 host.py --rounds N      tries N random inputs plain (20,000), N * 3 / 20 with sanitizers and N / 100 under valgrind
 host.py --seed N        other random inputs
@@ -234,7 +234,7 @@ def main():
     counts = given.rounds, given.rounds * 3 // 20, given.rounds // 100
     found = examples()
     with concurrent.futures.ThreadPoolExecutor(max_workers=os.cpu_count()) as pool:
-        failed = 0 if given.library else failures(pool, [("library", succeed, "rt", "staticlib", "host")])
+        failed = 0 if given.library else failures(pool, [("library", succeed, "tools/build", "host")])
         if not failed:
             builds = [(f"build {p}, {kind}", build, p, kind, library) for p in PROGRAMS for kind in KINDS]
             failed = failures(pool, [*builds, ("build reads", build_reads), ("C++", build_cpp, library)])

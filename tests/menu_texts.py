@@ -396,7 +396,7 @@ def check_output_file():
 
 
 NOWHERE, FIRST = EXAMPLES / "no-such-file", EXAMPLES / "first" / "input.bin"
-NO_LIBRARY = f"{NOWHERE} is not there: run `rt staticlib host` at the top of the checkout, which makes target/staticlib/libhost.a"
+NO_LIBRARY = f"{NOWHERE} is not there: run `tools/build host` at the top of the checkout, which makes target/staticlib/libhost.a"
 WRONG_WORDS = [
     # words, the command that tells, a part of what it says
     ([], "", "COMMAND"),

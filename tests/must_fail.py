@@ -18,7 +18,7 @@ names, and the facts named are of this function's proof: a function is proved fr
 alone. A definition moves everything above it, and a change of one has a file to itself.
 
 Fails where
-- an edit file isn't of this form, or two of its programs change one function;
+- an edit file isn't of this form, names a law that isn't in its file, or two of its programs change one function;
 - `rt ci` didn't say of an edit that it is refused, or named first a fact that none of its programs names;
 - with --each, a wrong program alone is proved, or a fact that it names doesn't fail, or only because another failed;
 - the table of wrong programs in docs/PROMISES.md is not the one that the files make;
@@ -71,6 +71,17 @@ class Program:
 
     def crate(self):
         return self.path.parent.parent.name
+
+    def missing_laws(self):
+        """What is wrong with the facts that it names of files of laws. A fact of a function's proof is in no file where `search` finds it."""
+        crate = self.path.parent.parent
+        for fact, file in self.facts:
+            law = crate / f"{file}.antt"
+            if law.exists():
+                if not re.search(rf"^ *(?:pub )?{re.escape(fact)}(?: \(.*\)| \{{.*\}})* :(?: |$)", law.read_text(), re.M):
+                    yield f"{file} has no {fact}"
+            elif not file.startswith("proofs/") or file.startswith("proofs/Theory/"):
+                yield f"there is no {file}.antt"
 
     def functions(self):
         """The functions whose bodies or private tables it changes, as the folders of their proofs; None for a change outside of any."""
@@ -139,6 +150,7 @@ def all_programs(problems):
                 if program.name in names:
                     problems.append(f"{path}: {program.name} is a name twice in {crate}")
                 names.add(program.name)
+                problems += [f"{path}: {program.name}: {missing}" for missing in program.missing_laws()]
             found += programs
     return found
 

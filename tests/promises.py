@@ -2,7 +2,8 @@
 """docs/PROMISES.md against the sources: what it cites is there.
 
 Fails where
-- a definition or theorem isn't public in the file named ("`demand` in standing's Runs/Laws" is crates/standing/specs/Runs/Laws.antt);
+- a definition or theorem isn't public in the file named ("`demand` in standing's Runs/Laws" is crates/standing/proofs/Theory/Runs/Laws.antt, and a file of
+  definitions is below specs/);
 - a case in quotes is none of tests/cases.py, or after `tests/catalogue.py` none of that program's;
 - a function that a crate shows to others is in neither table of calls or in both, a public call has a `requires`, or the table of calls between crates has
   other callers, or says of a function that it requires nothing where it does or the other way round;
@@ -20,16 +21,19 @@ import options
 
 CRATES = believe.HERE / "crates"
 PAGE = believe.HERE / "docs" / "PROMISES.md"
-CITATION = re.compile(r"((?:`[\w′-]+`(?:, | and |, with )?)+) in (\w+)'s? ([A-Z][\w/]*)")
+CITATION = re.compile(r"((?:`[\w'-]+`(?:, | and |, with )?)+) in (\w+)'s? ([A-Z][\w/]*)")
 CASES = re.compile(r'(`tests/catalogue\.py`)?((?:,? ?"[^"]+")+)')
 
 
 def check_citations(page, problems):
     count = 0
     for names, crate, file in CITATION.findall(page):
-        path = CRATES / crate / "specs" / f"{file}.antt"
-        public = set(re.findall(r"^\s*(?:abbrev |unfoldable )?pub (?:data |record )?(\S+)", path.read_text(), re.M)) if path.exists() else set()
-        for name in re.findall(r"`([\w′-]+)`", names):
+        public = set()
+        for place in ("specs", "proofs/Theory"):
+            path = CRATES / crate / place / f"{file}.antt"
+            if path.exists():
+                public |= set(re.findall(r"^\s*(?:abbrev |unfoldable )?pub (?:data |record )?(\S+)", path.read_text(), re.M))
+        for name in re.findall(r"`([\w'-]+)`", names):
             count += 1
             if name not in public:
                 problems.append(f"{name} is not in {crate}'s {file}")

@@ -136,7 +136,7 @@ def runs(number):
 
 def compare_random(number):
     if not PROGRAM.is_file():
-        say(f"{PROGRAM.relative_to(HERE)} is not there: rt check makes it")
+        say(f"{PROGRAM.relative_to(HERE)} is not there: `tools/build trials` makes it")
         return 1
     differ, ran, of = 0, {}, {" safe": 0, " endless rest": 0, " rows": 0, " refused 18": 0}
     calls = {" ; done 0 0": 0, " ; done": 0, " ;": 0}
