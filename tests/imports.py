@@ -23,7 +23,7 @@ BETWEEN = {"use": r"[^\w]+", "antt": r"[\s(){}.;,]+"}
 
 def used(name, tokens):
     parts = [p for p in name.split("◌") if p]
-    return all(p in tokens for p in parts)
+    return name in tokens or all(p in tokens for p in parts)
 
 
 def unused(text, start, comment):

@@ -10,6 +10,7 @@ use Rattle.standing.proofs.cause.Tie as tie
 -- What is known where the counts are tested.
 abbrev tested : tie.Else-left-m → tie.Start
 tested c = c.before.before
+
 sub-if1 : tie.Need-overflow_sub-joined
 sub-if1 c = search rules
 

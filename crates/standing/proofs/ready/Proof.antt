@@ -21,6 +21,7 @@ use Rattle.standing.proofs.ready.Tie as tie
 -- Store and query are judged.
 abbrev start : tie.After-begin-reading → tie.Start
 start c = c.before.before
+
 abbrev store : tie.After-begin-reading → Store
 store c = (start c).args.store
 
@@ -30,6 +31,7 @@ bytes c = (start c).args.bytes.now
 -- They aren't refused: the query is read.
 abbrev beginning : tie.In_default → tie.After-begin-reading
 beginning c = c.before.before
+
 done : (c : tie.In_default) → let b = beginning c in first_cause (begin_checks (store b) (bytes b)) ≡ Done
 done c = let b = beginning c in begun-cause (store b) (bytes b) Done (ap (λ r. r.answer) (sym b.begin-reading.ensures) ∙ c.in_default.is)
 

@@ -11,6 +11,7 @@ use Rattle.standing.proofs.layout.agree.Tie as tie
 
 abbrev start : tie.Else-xs-ys-3 → tie.Start
 start c = c.before.before.before.before.before.before.before.before
+
 first_length : (c : tie.Else-xs-ys-3) → length (start c).args.a.variables ≡ 4
 first_length c = search rules
 

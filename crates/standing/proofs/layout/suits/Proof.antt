@@ -23,12 +23,14 @@ use Rattle.standing.proofs.layout.suits.Tie as tie
 -- The columns are the query's.
 abbrev asked : tie.Else-not-agree → tie.Start
 asked c = c.before.before.before
+
 same-columns : (c : tie.Else-not-agree) → (asked c).args.view.columns ≡ (asked c).args.columns
 same-columns c = confirmed-by (c.if-not-agree.false) c.before.agree.ensures
 
 -- There are at most `max_rows` rows,
 abbrev agreed : tie.Else-count-gt-ROWS → tie.Else-not-agree
 agreed c = c.before.before.before
+
 abbrev list : tie.Else-count-gt-ROWS → View
 list c = (asked (agreed c)).args.view
 
@@ -38,18 +40,21 @@ columns c = (asked (agreed c)).args.columns
 -- each zero past its values,
 abbrev counted : tie.Else-not-all_end → tie.Else-count-gt-ROWS
 counted c = c.before.before.before
+
 all-ended : (c : tie.Else-not-all_end) → all_of (ends (columns (counted c)).count) (held_rows (list (counted c)).rows) ≡ true
 all-ended c = sym c.before.all_end.ensures ∙ c.if-not-all_end.false
 
 -- in order,
 abbrev ended : tie.Else-not-all_ascend → tie.Else-not-all_end
 ended c = c.before.before.before
+
 all-ordered : (c : tie.Else-not-all_ascend) → is-ascending row_below (held_rows (list (counted (ended c))).rows) ≡ true
 all-ordered c = sym c.before.all_ascend.ensures ∙ c.if-not-all_ascend.false
 
 -- and the rest zero.
 abbrev ordered : tie.Else-not-rest_zero → tie.Else-not-all_ascend
 ordered c = c.before.before.before
+
 abbrev held : tie.Else-not-rest_zero → tie.Else-count-gt-ROWS
 held c = counted (ended (ordered c))
 
