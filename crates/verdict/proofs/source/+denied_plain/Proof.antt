@@ -319,10 +319,11 @@ module _ (t : ℕ) where
   plain-plain-requires : plain-lts.Need-plain-requires (plain-claims t) (plain_at t) plain.Post
   plain-plain-requires c κs = let at = c.before.before.before in let n = plain-node at.before in rw n.reads (to-left (plain-start at.before).requires (inl (kind-read n at.in-4.is)))
 
+  -- The arm's kind is found among the facts, not by the arm's name.
   plain-returns-2 : plain-lts.Need-returns-then-is_in (plain-claims t) (plain_at t) plain.Post
   plain-returns-2 c =
-      let at = c.before.before.before.before in let g = (plain-start at.before).requires in let n = plain-node at.before in let k = kind-read n at.in-4.is in
-      (rw n.reads at c.plain.ensures) ∙ sym (law g order.nodes-and-left k (plain-left g (inl k) (rw n.reads at c.before.before.is_in-in-4.ensures) c.before.if-is_in.true))
+      let at = c.before.before.before.before in let g = (plain-start at.before).requires in let n = plain-node at.before in let k : kind (word g) ≡ 4 = kind-read n (omega arith) in
+      (rw n.reads at c.plain.ensures) ∙ sym (law g order.nodes-and-left k (plain-left g (inl k) (rw n.reads at c.before.if-is_in.ensures) refl))
 
   plain-mul-is-in-3 : plain-lts.Need-offset_bounds-plains-right (plain-claims t) (plain_at t) plain.Post
   plain-mul-is-in-3 c = search rules
