@@ -19,7 +19,7 @@ alone. A definition moves everything above it, and a change of one has a file to
 
 Fails where
 - an edit file isn't of this form, names a law that isn't in its file, or two of its programs change one function;
-- `rt ci` didn't say of an edit that it is refused, or that only by a limit or a missing name;
+- `rt ci` didn't say of an edit that it is refused, or that only by a limit or a missing name, or named first a fact that none of its programs names;
 - with --each, a wrong program alone is proved, or a fact that it names doesn't fail, or only because another failed;
 - the table of wrong programs in docs/PROMISES.md is not the one that the files make;
 - docs/PROMISES.md leaves a wrong program out, or cites a name that no wrong program, no function and no definition has.
@@ -181,15 +181,15 @@ def failures(text):
     return found
 
 
-def fails(fact, file, failed):
-    """Whether a fact is among those that fail. A goal of a proof may be named with its source file."""
+def fails(fact, file, failed, of_body):
+    """Whether a fact is among those that fail. Of a changed body a goal may be named with its source file."""
     module = file.split("/")[1:-1]
-    return (fact, file) in failed or file.startswith("proofs/") and any((fact, f"src/{m}") in failed for m in ([module[0]] if module else ["lib", "main"]))
+    return (fact, file) in failed or of_body and file.startswith("proofs/") and any((fact, f"src/{m}") in failed for m in ([module[0]] if module else ["lib", "main"]))
 
 
 def check_log(programs, problems):
-    """What `rt ci` printed of each edit: that it is refused, and for more than a name that the change took away. What fails first is a matter of the order in which
-    the prover comes to the files, so that the facts named are those that fail is for --each."""
+    """What `rt ci` printed of each edit: that it is refused, for more than a name that the change took away, and a first fact that fails, which one of the edit's
+    programs names. That each fact of each program fails is for --each: `rt` tries all programs of a file at once, and prints no more than the first fact."""
     if not LOG.exists():
         problems.append(f"no log {LOG.relative_to(ROOT)}: tests/run writes it")
         return
@@ -199,8 +199,13 @@ def check_log(programs, problems):
         line = said.get(edit, "")
         if not line.startswith("refused, as it must be"):
             problems.append(f"{edit}: not refused: {line or 'rt ci says nothing of it'}")
-        elif line.startswith("refused, as it must be ("):
+            continue
+        if line.startswith("refused, as it must be ("):
             problems.append(f"{edit}: {line}")
+            continue
+        first = failures(line.partition("refused, as it must be: ")[2])
+        if not any(fails(fact, file, first, None not in p.functions()) for p in programs if p.path == path for fact, file in p.facts):
+            problems.append(f"{edit}: what fails first is named by none of its programs: {line[:200]}")
 
 
 def try_alone(program, deps):
@@ -244,7 +249,7 @@ def check_each(programs, problems):
         for program, log in zip(programs, pool.map(lambda p: try_alone(p, deps), programs), strict=True):
             failed = failures(log)
             for fact, file in program.facts:
-                if not fails(fact, file, failed):
+                if not fails(fact, file, failed, None not in program.functions()):
                     shown = ", ".join(f"{f} in {p}" for f, p in dict.fromkeys(failed)) or log.strip().split("\n")[-1][:200]
                     problems.append(f"{program.crate()}/{program.path.stem}, {program.name}: {fact} in {file} doesn't fail; what fails: {shown}")
 
@@ -286,7 +291,7 @@ def check_promises(programs, problems):
     sources = "\n".join(p.read_text() for p in ROOT.glob("crates/*/src/*.rt"))
     functions = set(re.findall(r"fn (\w+)", sources))
     theory = "\n".join(p.read_text() for p in ROOT.glob("crates/*/*/**/*.antt") if p.relative_to(ROOT).parts[2] in ("specs", "proofs"))
-    functions |= set(re.findall(r"^ *(?:(?:abbrev|unfoldable) )?(?:pub )?(?:data |record )?(\w+) :", theory, re.M))
+    functions |= set(re.findall(r"^ *(?:(?:abbrev|unfoldable) )?pub (?:data |record )?(\w+)\b", theory, re.M))
     for name in sorted(names - cited):
         problems.append(f"docs/PROMISES.md: no promise says that {name} tries it")
     for name in sorted(cited - names - functions):
