@@ -168,9 +168,9 @@ def failures(text):
     found = []
     # A message may go on in further lines, which begin with two spaces.
     for line in re.sub(r"\n  +", " ", text).split("\n"):
-        fact = re.match(r"(?:so far: )?(?:\./)?(?:\S*?must-fail \S+: refused, as it must be: (?:\./)?)?((?:specs|proofs|src)/\S+?)(?:/Proof|/Answers|/Invariants)?\.(?:antt|rt):\d+:\d+: error: `([^`]*)`: (.*)", line)
+        fact = re.match(r"(?:so far: )?(?:\./)?(?:\S*?must-fail \S+: refused, as it must be: (?:\./)?)?((?:specs|proofs|src)/\S+?)(?:/Proof|/Answers|/Invariants)?\.(?:antt|rt):\d+:\d+: error: `([^`]*)`(?:: | is not admitted: )(.*)", line)
         made = re.match(r"(?:so far: )?fn .*: no proof: expected .*? in (?:\./)?(proofs/\S+)/\w+\.antt; `search` did not prove (.*)", line)
-        told = re.match(r"(?:\S*?must-fail \S+: refused, as it must be: )?note: (src/\w+)\.rt:\d+:\d+: it is not proved .*\(`([^`]*)`\)", line)
+        told = re.match(r"(?:\S*?must-fail \S+: refused, as it must be: )?note: (src/\w+)\.rt:\d+:\d+: (?:it is not proved .*|`search` found no proof )\(`([^`]*)`\)", line)
         if fact and not EMPTY.search(fact[3]):
             found.append((fact[2], fact[1]))
         elif made:
