@@ -103,7 +103,7 @@ def check_cited(problems, what, text, cited, path, local=()):
 def functions(path):
     """The functions of a source file, each with its contract."""
     text = "\n".join(code_of(path))
-    return {m[1]: m[0] for m in re.finditer(r"fn (\w+)(?:.|\n)*?\n\{", text)}
+    return {m[1]: m[0] for m in re.finditer(r"fn (\w+)(?:.|\n)*?\n *\{\n", text)}
 
 
 def check_calls(problems, promises):

@@ -89,19 +89,21 @@ class Program:
 
 
 def function_at(crate, file, text):
-    """The function of a source file that has the text, as the end of its proof's path: module/function. A private table is of the function that alone names it,
-    in the whole crate."""
+    """The function of a source file that has the text, as the end of its proof's path: module/function, or module/Type/function of a method. A private table is of
+    the function that alone names it, in the whole crate."""
     if not file.startswith("src/"):
         return None
     source = (crate / file).read_text()
-    functions = [*re.finditer(r"^(?:pub )?(?:extern \"C\" )?fn (\w+).*?^\}$", source, re.M | re.S)]
+    functions = [*re.finditer(r"^( *)(?:pub )?(?:extern \"C\" )?fn (\w+).*?^\1\}$", source, re.M | re.S)]
+    types = [*re.finditer(r"^impl(?:<[^>]*>)? (?:\w+ for )?(\w+).*?^\}$", source, re.M | re.S)]
+    path = lambda f: "/".join([*(t[1] for t in types if t.start() < f.start() < t.end()), f[2]])
     at = source.find(text)
-    around = [f[1] for f in functions if f.start() < at < f.end()]
+    around = [path(f) for f in functions if f.start() <= at < f.end()]
     for table in re.finditer(r"^const (\w+)[^\n]*\[\n.*?^\];$", source, re.M | re.S):
         if table.start() <= at < table.end():
             named = rf"\b{table[1]}\b"
             elsewhere = any(re.search(named, other.read_text()) for other in (crate / "src").glob("**/*.rt") if other != crate / file)
-            around = [f[1] for f in functions if re.search(named, f[0])] if not elsewhere else []
+            around = [path(f) for f in functions if re.search(named, f[0])] if not elsewhere else []
     if len(around) != 1:
         return None
     module = pathlib.Path(file).stem
@@ -112,7 +114,7 @@ def is_proof_of(function, fact, file):
     """Whether a fact of a proof file is one of this function: in a proof of functions that call each other, each fact has the name of its own first."""
     *module, name = function.split("/")
     *folder, last = file.split("/")[1:]
-    of_cycle = last.startswith("+") and (last == f"+{name}" or f"_{name}_" in f"_{last[1:]}_" and fact.replace("_", "-").startswith(name.replace("_", "-") + "-"))
+    of_cycle = last.startswith("+") and (last == f"+{name}" or fact.replace("_", "-").startswith(name.replace("_", "-") + "-"))
     return file.startswith("proofs/") and folder == module and (last == name or of_cycle)
 
 
@@ -181,10 +183,10 @@ def failures(text):
     return found
 
 
-def fails(fact, file, failed, of_body):
-    """Whether a fact is among those that fail. Of a changed body a goal may be named with its source file."""
-    module = file.split("/")[1:-1]
-    return (fact, file) in failed or of_body and file.startswith("proofs/") and any((fact, f"src/{m}") in failed for m in ([module[0]] if module else ["lib", "main"]))
+def fails(fact, file, failed):
+    """Whether a fact is among those that fail. Of a function without answers a goal is named with its source file, and a method is of its type's module."""
+    module = [m for m in file.split("/")[1:-1] if not m[0].isupper()]
+    return (fact, file) in failed or file.startswith("proofs/") and any((fact, f"src/{m}") in failed for m in ([module[0]] if module else ["lib", "main"]))
 
 
 def check_log(programs, problems):
@@ -204,7 +206,7 @@ def check_log(programs, problems):
             problems.append(f"{edit}: {line}")
             continue
         first = failures(line.partition("refused, as it must be: ")[2])
-        if not any(fails(fact, file, first, None not in p.functions()) for p in programs if p.path == path for fact, file in p.facts):
+        if not any(fails(fact, file, first) for p in programs if p.path == path for fact, file in p.facts):
             problems.append(f"{edit}: what fails first is named by none of its programs: {line[:200]}")
 
 
@@ -249,7 +251,7 @@ def check_each(programs, problems):
         for program, log in zip(programs, pool.map(lambda p: try_alone(p, deps), programs), strict=True):
             failed = failures(log)
             for fact, file in program.facts:
-                if not fails(fact, file, failed, None not in program.functions()):
+                if not fails(fact, file, failed):
                     shown = ", ".join(f"{f} in {p}" for f, p in dict.fromkeys(failed)) or log.strip().split("\n")[-1][:200]
                     problems.append(f"{program.crate()}/{program.path.stem}, {program.name}: {fact} in {file} doesn't fail; what fails: {shown}")
 

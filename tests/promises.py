@@ -97,19 +97,27 @@ def shown():
         for path, prefix in files:
             code = "\n".join(believe.code_of(path))
             found.update({prefix + m[1]: "requires" in m[0] for m in re.finditer(r'^pub (?:extern "C" )?fn (\w+)(?:.|\n)*?\n\{', code, re.M)})
+            for block in re.finditer(r"^impl(?:<.*?>)? (\w+)(?:<.*?>)? \{\n(?:.|\n)*?^\}", code, re.M):
+                found.update({f"{prefix}{block[1]}::{m[1]}": "requires" in m[0] for m in re.finditer(r"^    pub fn (\w+)(?:.|\n)*?\n    \{", block[0], re.M)})
         for module, name in [path.split("::") for path in brought_in(text, "pub use")]:
             found[f"{crate}::{name}"] = "requires" in believe.functions(lib.with_name(f"{module}.rt"))[name]
     return found
 
 
 def callers(name):
-    """The crates that call a function of another crate, by its path or by the last module of it."""
+    """The crates that call a function of another crate, or hand it on, by its path or by the last module of it. A method is called where its type is brought in."""
     crate, *modules, function = name.split("::")
     found = set()
     for path in CRATES.glob("*/src/*.rt"):
         text = path.read_text()
-        short = modules and "::".join([crate, *modules]) in brought_in(text, "use") and re.search(rf"\b{modules[-1]}::{function}\(", text)
-        if path.parent.parent.name != crate and (re.search(rf"\b{name}\(", text) or short):
+        imports = {place.removesuffix("::self") for place in brought_in(text, "use")}
+        if modules and modules[-1][0].isupper():
+            called = "::".join([crate, *modules]) in imports and re.search(rf"(?:\b{modules[-1]}::|\.){function}\(", text)
+        else:
+            short = modules and "::".join([crate, *modules]) in imports and re.search(rf"\b{modules[-1]}::{function}\b", text)
+            bare = name in imports and re.search(rf"(?<![\w:.]){function}\(", text)
+            called = re.search(rf"\b{name}\b(?!::)", re.sub(r"(?m)^(?:pub )?use [^;]*;", "", text)) or short or bare
+        if path.parent.parent.name != crate and called:
             found.add(path.parent.parent.name)
     return found
 

@@ -1,13 +1,11 @@
 -- The numbers that the benchmark's entries return. Definitions only; the laws are in Entry/Laws.antt.
 use Rattle.std.specs.Prelude.{ℕ, ◌+◌, ◌*◌, Bool, cond, List, get_or}
-use Rattle.causes.specs.declared.Answer.{Answer}
-use Rattle.causes.specs.declared.Answer.TheVariants.{Done, Refused}
-use Rattle.causes.specs.Causes.{number, place}
+use Rattle.causes.specs.Causes.{Answer, Done, Refused, number, place}
 use Rattle.tables.specs.declared.Record.{Record}
 use Rattle.tables.specs.declared.Store.{Store}
-use Rattle.answer.specs.declared.Found.{Found}
+use Rattle.answer.specs.Reply.{Found}
 use Rattle.standing.specs.declared.View.{View}
-use Rattle.standing.specs.declared.Change.{Change}
+use Rattle.standing.specs.Change.{Change}
 
 -- The store of these arrays.
 abbrev pub store_with : List ℕ → List ℕ → List ℕ → ℕ → Store

@@ -1,18 +1,24 @@
 // The answers call, and a put or removal with its standing list, as the benchmark makes them from C: over the arrays of a store and of a list, with one number
 // returned.
+// Stays: arrays with their counts, marks and numbers are parameters of their own, as the C interface has them.
 #![tactic(auto)]
 
 ghost use Rattle.std.specs.Prelude.{◌≡◌, ◌<◌};
+ghost use Rattle.causes.specs.Causes.{number_of, place_of};
 ghost use Rattle.query.specs.Reading.{max_nodes};
 ghost use Rattle.answer.specs.Reply.{found_of};
 ghost use Rattle.standing.specs.Checks.{action_of};
-ghost use Rattle.standing.specs.Change.{change_of};
+ghost use Rattle.standing.specs.Change.{change_in, change_of};
 ghost use Rattle.bench.specs.Entry.{refusal, store_with, coded, view_with, record_with, coded_change};
 
-use causes::{Answer, RELATIONS};
+use answer::Found;
+use causes::{RELATIONS, Refusal};
 use query::{COLUMNS, Columns};
 use standing::{Change, NUMBERS, Rows, View};
 use tables::{PLACES, Record, Store, VALUES};
+
+// What tells endless: 2^63. A refusal is told past it.
+const ENDLESS: u64 = 1 << 63;
 
 // The store of these arrays.
 fn store_of<'a>(
@@ -23,13 +29,10 @@ fn store_of<'a>(
 ) -> Store
     ensures { result ≡ store_with widths.now relations.now values.now count }
 {
-    let w = *widths;
-    let r = *relations;
-    let v = *values;
     Store {
-        widths: w,
-        relations: r,
-        values: v,
+        widths: *widths,
+        relations: *relations,
+        values: *values,
         count,
     }
 }
@@ -45,15 +48,13 @@ fn view_of<'a>(
 ) -> View
     ensures { result ≡ view_with variables.now columns rows.now held endless counts.now }
 {
-    let c = *variables;
-    let n = *rows;
     View {
         columns: Columns {
-            variables: c,
+            variables: *variables,
             count: columns,
         },
         rows: Rows {
-            values: n,
+            values: *rows,
             count: held,
         },
         endless,
@@ -77,11 +78,11 @@ fn record_of(relation: u8, tuple: &[u32; 4]) -> Record
 }
 
 // A refusal as one number. The place is a node's number, or 0.
-fn refused(number: u8, place: u64) -> u64
-    requires { place < max_nodes }
-    ensures { result ≡ refusal number place }
+fn refused(cause: Refusal) -> u64
+    requires { place_of cause < max_nodes }
+    ensures { result ≡ refusal (number_of cause) (place_of cause) }
 {
-    9223372036854775808 + 256 * number as u64 + place
+    ENDLESS + 256 * u64::from(cause.number()) + cause.place()
 }
 
 // The answer to the query that the bytes hold. The number of rows; or 2^63 for endless; or 2^63 + 256 × number + place for a refusal.
@@ -98,15 +99,11 @@ pub extern "C" fn palmrummy_find<'a>(
     ensures { (result, out.new) ≡ coded (found_of (store_with widths.now relations.now values.now count) bytes.now wanted out.old) }
 {
     let store = store_of(widths, relations, values, count);
-    let found = answer::find(store, bytes, wanted, out);
-    let answer = found.answer;
-    if let Answer::Refused(number, place) = answer {
-        return refused(number, place);
+    match answer::find(store, bytes, wanted, out) {
+        Ok(Found::Endless) => ENDLESS,
+        Ok(Found::Rows(n)) => n as u64,
+        Err(cause) => refused(cause),
     }
-    if found.endless {
-        return 9223372036854775808;
-    }
-    found.rows as u64
 }
 
 // A put, or a removal.
@@ -118,13 +115,14 @@ fn change(
     tuple: Record,
     joined: &mut [u32],
     left: &mut [u32],
-) -> Change
-    ensures { (result, (joined.new, left.new)) ≡ change_of (action_of removal tuple) store view bytes.now joined.old left.old }
+) -> Result<Change, Refusal>
+    ensures { (change_in store view result, (joined.new, left.new)) ≡ change_of (action_of removal tuple) store view bytes.now joined.old left.old }
 {
     if removal {
-        return standing::remove(store, view, bytes, tuple, joined, left);
+        standing::remove(store, view, bytes, tuple, joined, left)
+    } else {
+        standing::put(store, view, bytes, tuple, joined, left)
     }
-    standing::put(store, view, bytes, tuple, joined, left)
 }
 
 // A put or removal over a store and its list. The numbers of rows that joined and left, as joined + 65536 × left; or 2^63 + 256 × number + place for a refusal.
@@ -153,10 +151,8 @@ pub extern "C" fn palmrummy_change<'a>(
     let store = store_of(widths, relations, values, count);
     let view = view_of(variables, columns, rows, held, endless, counts);
     let record = record_of(relation, tuple);
-    let changed = change(removal, store, view, bytes, record, joined, left);
-    let answer = changed.answer;
-    if let Answer::Refused(number, place) = answer {
-        return refused(number, place);
+    match change(removal, store, view, bytes, record, joined, left) {
+        Ok(changed) => changed.joined as u64 + 65536 * changed.left as u64,
+        Err(cause) => refused(cause),
     }
-    changed.joined as u64 + 65536 * changed.left as u64
 }

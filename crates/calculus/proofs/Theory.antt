@@ -1,3 +1,4 @@
+pub mod Chains
 pub mod Decimal
 pub mod Evaluation
 pub mod Formula

@@ -3,16 +3,13 @@ use Rattle.std.specs.Prelude.{ℕ, ◌+◌, ◌*◌, ◌/◌, ◌%◌, ◌^◌, 
 use Rattle.calculus.specs.Sets.{union_of}
 use Rattle.calculus.specs.Lists.{padded}
 use Rattle.calculus.specs.Rows.{Result, endless, listed}
-use Rattle.causes.specs.declared.Answer.{Answer}
-use Rattle.causes.specs.declared.Answer.TheVariants.{Done, Refused}
-use Rattle.causes.specs.Causes.{first_cause, number, place}
+use Rattle.causes.specs.Causes.{Answer, Done, Refused, first_cause, number, place}
 use Rattle.query.specs.declared.Query.{Query}
 use Rattle.query.specs.Reading.{pool, nodes_in}
 use Rattle.query.specs.Packing.{word_bytes, packed_bytes}
-use Rattle.rules.specs.declared.Packing.{Packing}
+use Rattle.rules.specs.Reply.{Packing, packing}
 use Rattle.rules.specs.Grammar.{Parse}
-use Rattle.rules.specs.Reply.{packing}
-use Rattle.verdict.specs.declared.Verdict.{Verdict}
+use Rattle.verdict.specs.Verdict.{Verdict}
 use Rattle.answer.specs.Reply.{row_bytes}
 use Rattle.packed.specs.Packed.{judged_of, result_in, list_checks}
 

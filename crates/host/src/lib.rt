@@ -5,12 +5,14 @@
 mod bytes;
 
 ghost use Rattle.std.specs.Prelude.{◌≡◌, ◌<◌};
-ghost use Rattle.causes.specs.declared.Answer.TheVariants.{Refused};
+ghost use Rattle.causes.specs.Causes.{refusal_of, place_of};
 ghost use Rattle.query.specs.Reading.{max_nodes};
+ghost use Rattle.verdict.specs.Verdict.{verdict_in};
 ghost use Rattle.host.specs.Entry.{code, verdict_bytes, verdict_entry, answer_entry, RuleEntry};
 ghost use Rattle.host.specs.Code.Entry.{Writable};
 
-use causes::Answer;
+use answer::Found;
+use causes::Refusal;
 use query::write;
 use rules::PACKED;
 use verdict::Verdict;
@@ -19,43 +21,35 @@ use verdict::Verdict;
 pub const VERDICT: usize = 370;
 
 // Where the refusals of a verdict and of a rule's text start.
+// Stays: numbers, as the C interface has them; so are those below.
 const REFUSED: u32 = 2147483648;
 
 // What an endless answer returns, and where the refusals of an answer start.
 const ENDLESS: u64 = 9223372036854775808;
 
 // The number and place of a refusal as one number. The place is a node's number, or 0, so both can be read off.
-fn code(number: u8, place: u64) -> u32
-    requires { place < max_nodes }
-    ensures { (result ≡ code (Refused number place)) × (result < 65536) }
+fn code(refusal: Refusal) -> u32
+    requires { place_of refusal < max_nodes }
+    ensures { (result ≡ code (refusal_of refusal)) × (result < 65536) }
 {
-    256 * number as u32 + place as u32
+    256 * u32::from(refusal.number()) + refusal.place() as u32
 }
 
 // A verdict's bytes.
 fn written(v: Verdict) -> [u8; VERDICT]
-    requires { Writable v }
-    ensures { result ≡ verdict_bytes v }
+    requires { Writable (verdict_in v) }
+    ensures { result ≡ verdict_bytes (verdict_in v) }
 {
-    let columns = v.columns;
-    let variables = columns.variables;
-    let generators = v.generators;
     let mut reply = [0u8; VERDICT];
-    reply[0] = if v.safe { 1 } else { 0 };
-    reply[1] = columns.count as u8;
-    reply[2] = variables[0];
-    reply[3] = variables[1];
-    reply[4] = variables[2];
-    reply[5] = variables[3];
-    bytes::long(generators[0], &mut reply, 6);
-    bytes::long(generators[1], &mut reply, 14);
-    bytes::long(generators[2], &mut reply, 22);
-    bytes::long(generators[3], &mut reply, 30);
-    reply[38] = (v.ungenerated / 256) as u8;
-    reply[39] = (v.ungenerated % 256) as u8;
+    reply[0] = u8::from(v.safe);
+    reply[1] = v.columns.count as u8;
+    reply[2..6].copy_from_slice(&v.columns.variables);
+    for (i, generator) in v.generators.iter().enumerate() {
+        bytes::long(*generator, &mut reply, 6 + 8 * i);
+    }
+    reply[38..40].copy_from_slice(&v.ungenerated.to_be_bytes());
     bytes::long(v.unranged, &mut reply, 40);
-    let form = v.form;
-    write::query(form, &mut reply, 48);
+    write::query(v.form, &mut reply, 48);
     reply
 }
 
@@ -64,13 +58,13 @@ fn written(v: Verdict) -> [u8; VERDICT]
 pub extern "C" fn palmrummy_verdict(input: &[u8], out: &mut [u8; VERDICT]) -> u32
     ensures { (result, out.new) ≡ verdict_entry input.now out.old }
 {
-    let v = packed::judge(input);
-    let answer = v.answer;
-    if let Answer::Refused(number, place) = answer {
-        return REFUSED + code(number, place);
+    match packed::judge(input) {
+        Ok(verdict) => {
+            *out = written(verdict);
+            0
+        }
+        Err(refusal) => REFUSED + code(refusal),
     }
-    *out = written(v);
-    0
 }
 
 // The answer to the query of a packed input: causes 2, then 1 and 3 to 10, then 13 and 15, then 18.
@@ -78,15 +72,13 @@ pub extern "C" fn palmrummy_verdict(input: &[u8], out: &mut [u8; VERDICT]) -> u3
 pub extern "C" fn palmrummy_answer(input: &[u8], out: &mut [u8]) -> u64
     ensures { (result, out.new) ≡ answer_entry input.now out.old }
 {
-    let listing = packed::find_bytes(input, out);
-    let answer = listing.answer;
-    if let Answer::Refused(number, place) = answer {
-        return ENDLESS + code(number, place) as u64;
+    match packed::find_bytes(input, out) {
+        Ok(listing) => match listing.found {
+            Found::Endless => ENDLESS,
+            Found::Rows(n) => n as u64,
+        },
+        Err(refusal) => ENDLESS + u64::from(code(refusal)),
     }
-    if listing.endless {
-        return ENDLESS;
-    }
-    listing.rows as u64
 }
 
 // The query of a rule's text: cause 20, its place in a number of its own.
@@ -94,13 +86,14 @@ pub extern "C" fn palmrummy_answer(input: &[u8], out: &mut [u8]) -> u64
 pub extern "C" fn palmrummy_rule(text: &[u8], out: &mut [u8; PACKED], place: &mut [u64; 1]) -> u32
     ensures { RuleEntry text.now out.old place.old (result, (out.new, place.new)) }
 {
-    let p = rules::pack(text);
-    let answer = p.answer;
-    if let Answer::Refused(number, at) = answer {
-        *place = [at];
-        return REFUSED + 256 * number as u32;
+    match rules::pack(text) {
+        Ok(rule) => {
+            out.copy_from_slice(&rule.bytes);
+            rule.size as u32
+        }
+        Err(refusal) => {
+            *place = [refusal.place()];
+            REFUSED + 256 * u32::from(refusal.number())
+        }
     }
-    let bytes = p.bytes;
-    *out = bytes;
-    p.size as u32
 }

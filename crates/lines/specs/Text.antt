@@ -4,9 +4,7 @@ use Rattle.calculus.specs.Sets.{union_of}
 use Rattle.calculus.specs.Decimal.{digits}
 use Rattle.calculus.specs.Generators.{columns, verdict, safe}
 use Rattle.calculus.specs.Rows.{Result, endless, listed}
-use Rattle.causes.specs.declared.Answer.{Answer}
-use Rattle.causes.specs.declared.Answer.TheVariants.{Done, Refused}
-use Rattle.causes.specs.Causes.{first_cause, number, place}
+use Rattle.causes.specs.Causes.{Answer, Done, Refused, first_cause, number, place}
 use Rattle.query.specs.declared.Query.{Query}
 use Rattle.query.specs.Reading.{formula}
 use Rattle.packed.specs.Packed.{query_read, result_in, list_checks}

@@ -5,25 +5,26 @@ mod text;
 
 ghost use Rattle.std.specs.Prelude.{◌≡◌, ◌∷◌, [], ◌+◌, ◌*◌, ◌≤◌, ◌<◌, length, take};
 ghost use Rattle.calculus.specs.Sets.{union_of};
+ghost use Rattle.causes.specs.Causes.{number_of, place_of};
 ghost use Rattle.query.specs.Reading.{max_nodes};
 ghost use Rattle.query.specs.Code.Writing.{wrote};
 ghost use Rattle.answer.specs.Code.Listing.{cut};
-ghost use Rattle.lines.specs.Text.{line, word_refused, word_row, word_rows, word_endless, head_text, printed};
+ghost use Rattle.lines.specs.Text.{line, word_refused, word_row, head_text, printed};
 
-use causes::Answer;
+use answer::Found;
+use causes::Refusal;
 use query::Columns;
 
 // The bytes of the longest output, and some more.
 pub const LINES: usize = 65536;
 
 // The line of a refusal, at the front of a list. The place is a node's number, or 0.
-fn refusal(number: u8, place: u64, out: &mut [u8]) -> usize
-    requires { (place < max_nodes) × (64 ≤ length out.old) }
-    ensures { (result, out.new) ≡ wrote 0 (line word_refused (number ∷ place ∷ [])) out.old }
+fn refused(cause: Refusal, out: &mut [u8]) -> usize
+    requires { (place_of cause < max_nodes) × (64 ≤ length out.old) }
+    ensures { (result, out.new) ≡ wrote 0 (line word_refused (number_of cause ∷ place_of cause ∷ [])) out.old }
 {
-    let word = [b'r', b'e', b'f', b'u', b's', b'e', b'd'];
-    let numbers = [number as u32, place as u32];
-    text::line(&word, &numbers, 0, 2, out, 0)
+    let numbers = [u32::from(cause.number()), cause.place() as u32];
+    text::line(b"refused", &numbers, out, 0)
 }
 
 // The first two lines.
@@ -32,15 +33,8 @@ fn head(safe: bool, columns: Columns, out: &mut [u8]) -> usize
     ensures { (result, out.new) ≡ wrote 0 (head_text safe (take columns.count columns.variables)) out.old }
 {
     let at = text::verdict(safe, out);
-    let word = [b'c', b'o', b'l', b'u', b'm', b'n', b's'];
-    let variables = columns.variables;
-    let numbers = [
-        variables[0] as u32,
-        variables[1] as u32,
-        variables[2] as u32,
-        variables[3] as u32,
-    ];
-    text::line(&word, &numbers, 0, columns.count, out, at)
+    let variables = columns.variables.map(u32::from);
+    text::line(b"columns", &variables[..columns.count], out, at)
 }
 
 // A line for each of the n rows of k values that stand one after the other in a list.
@@ -48,36 +42,15 @@ fn rows(numbers: &[u32], k: usize, n: usize, out: &mut [u8], at: usize) -> usize
     requires { (n ≤ 4097) × (n * k ≤ length numbers.now) × (length numbers.now ≤ 4096) × (at + 4 * n + 11 * (n * k) ≤ length out.old) × (at ≤ 65536) }
     ensures { (result, out.new) ≡ wrote at (union_of (line word_row) (cut k n numbers.now)) out.old }
 {
-    let word = [b'r', b'o', b'w'];
-    let mut i = 0;
-    let mut from = 0;
+    let mut left = numbers;
     let mut end = at;
-    while i < n {
-        end = text::line(&word, numbers, from, k, out, end);
-        from += k;
-        i += 1;
+    // Stays: no `chunks_exact`, since k is 0 where a query has no columns.
+    for _i in 0..n {
+        let (row, rest) = left.split_at(k);
+        end = text::line(b"row", row, out, end);
+        left = rest;
     }
     end
-}
-
-// The line of the number of rows.
-fn total(n: usize, out: &mut [u8], at: usize) -> usize
-    requires { (n ≤ 4097) × (at + 16 ≤ length out.old) × (at ≤ 65536) }
-    ensures { (result, out.new) ≡ wrote at (line word_rows (n ∷ [])) out.old }
-{
-    let word = [b'r', b'o', b'w', b's'];
-    let numbers = [n as u32];
-    text::line(&word, &numbers, 0, 1, out, at)
-}
-
-// The line that stands in place of rows and their number.
-fn endless(out: &mut [u8], at: usize) -> usize
-    requires { (at + 8 ≤ length out.old) × (at ≤ 65536) }
-    ensures { (result, out.new) ≡ wrote at (line word_endless []) out.old }
-{
-    let word = [b'e', b'n', b'd', b'l', b'e', b's', b's'];
-    let numbers = [0u32];
-    text::line(&word, &numbers, 0, 0, out, at)
 }
 
 // The output for a packed input, at the front of a list; its length. The rest of the list is unaltered.
@@ -86,18 +59,17 @@ pub fn print(input: &[u8], out: &mut [u8; LINES]) -> usize
     ensures upper_bound { result ≤ 65536 }
 {
     let mut numbers = packed::room();
-    let listing = packed::find(input, &mut numbers);
-    let answer = listing.answer;
-    if let Answer::Refused(number, place) = answer {
-        return refusal(number, place, out);
+    let listing = match packed::find(input, &mut numbers) {
+        Ok(listing) => listing,
+        Err(cause) => return refused(cause, out),
+    };
+    let at = head(listing.safe, listing.columns, out);
+    match listing.found {
+        Found::Endless => text::line(b"endless", &[], out, at),
+        Found::Rows(n) => {
+            let end = rows(&numbers, listing.columns.count, n, out, at);
+            let total = n as u32;
+            text::line(b"rows", &[total], out, end)
+        }
     }
-    let columns = listing.columns;
-    let k = columns.count;
-    let n = listing.rows;
-    let at = head(listing.safe, columns, out);
-    if listing.endless {
-        return endless(out, at);
-    }
-    let end = rows(&numbers, k, n, out, at);
-    total(n, out, end)
 }

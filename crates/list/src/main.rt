@@ -10,17 +10,13 @@ const SPACE: usize = 8193;
 
 fn main(rt: HostRuntime) {
     let mut space = [0u8; SPACE];
-    let p = streams::read_all(&mut rt.stdin(), &mut space);
-    if p.failed {
+    let Ok(size) = streams::read_all(&mut rt.stdin(), &mut space) else {
         let _ = eprintln!(rt; "standard input: a read failed");
         return;
-    }
+    };
     let mut out = [0u8; LINES];
-    let n = lines::print(&space[..p.bytes], &mut out);
-    // As a slice, by way of a reference: that gives the proof the length.
-    let whole = &out;
-    let text: &[u8] = whole;
-    if let Err(e) = rt.write_all(&text[..n]) {
+    let n = lines::print(&space[..size], &mut out);
+    if let Err(e) = rt.write_all(&out[..n]) {
         let _ = eprintln!(rt; "standard output: {e}");
     }
 }

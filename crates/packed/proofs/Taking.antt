@@ -1,40 +1,32 @@
 -- The steps of assess and find on values: what was taken from the bytes bs is the input i, and what it was judged to be is the assessment a; both are refused, or
 -- the query can be evaluated.
 use Prim.Native.Nat.{ℕ, ◌<◌, ◌^◌}
-use mathlib.Core.Path.{◌≡◌, sym, ap, subst, subst⁻¹, ◌∙◌}
+use mathlib.Core.Path.{◌≡◌, refl, sym, ap, subst, subst⁻¹, ◌∙◌}
+use mathlib.Core.Bool.{Bool}
 use mathlib.Core.List.{List}
 use lib.ListN.{get_or}
 use Rattle.calculus.specs.Generators.{columns}
-use Rattle.causes.specs.declared.Answer.{Answer}
-use Rattle.causes.specs.declared.Answer.TheVariants.{Done, Refused}
-use Rattle.causes.specs.Causes.{first_cause}
+use Rattle.causes.specs.Causes.{Answer, Done, Refused, first_cause}
+use Rattle.query.specs.declared.Columns.{Columns}
 use Rattle.query.specs.Reading.{formula, columns_of}
-use Rattle.verdict.specs.declared.Verdict.{Verdict}
+use Rattle.tables.specs.Store.{no_store}
+use Rattle.verdict.specs.Verdict.{Verdict, judged, refusal as verdict_refusal}
 use Rattle.verdict.specs.Code.Form.{IsAccepted}
 use Rattle.verdict.specs.Form.{form_of}
-use Rattle.verdict.specs.Verdict.{judged, refusal_with}
-use Rattle.answer.specs.declared.Found.{Found}
+use Rattle.answer.specs.declared.Found.{Found as Rows}
+use Rattle.answer.specs.declared.Found.TheVariants as rows
+use Rattle.answer.specs.Reply.{Found, Writing, rows_found}
 use Rattle.answer.specs.Code.Reply.{Answerable, Evaluable, form_evaluated_by, evaluated_by}
-use Rattle.answer.specs.Reply.{Writing}
 use Rattle.answer.proofs.Theory.Reply.Laws.{form-evaluated-read}
-use Rattle.packed.specs.declared.Input.{Input}
-use Rattle.packed.specs.declared.Assessment.{Assessment}
-use Rattle.packed.specs.Code.Packed.{input_reply, input_of, with_verdict, assessed, listing_with}
-use Rattle.packed.specs.Packed.{input_checks, query_read, declined, listing_in}
-use Rattle.packed.proofs.Theory.Packed.Laws.{input-answer, input-refused, input-done, judged-answer, judged-refused, judged-done, listing-refused, listing-done, input-answerable, form-constants}
+use Rattle.packed.specs.Code.Packed.{Input, Assessment, refusal, input_reply, input_of, with_verdict, assessed, listing_with}
+use Rattle.packed.specs.Packed.{input_checks, query_read, declined, beside, listing_in}
+use Rattle.packed.proofs.Theory.Packed.Laws.{input-answer, input-done, judged-answer, judged-refused, judged-done, listing-refused, listing-done, input-answerable, form-constants}
 
 -- ---- the input
 
 module _ (bs : List ℕ) (i : Input) (e : i ≡ input_of bs) where
   input-cause : (a : Answer) → i.answer ≡ a → first_cause (input_checks bs) ≡ a
   input-cause a h = sym (input-answer bs) ∙ ap (λ v. v.answer) (sym e) ∙ h
-
-  -- Refused.
-  pub refused-input : (n p : ℕ) → i.answer ≡ Refused n p → (v : Verdict) → v ≡ refusal_with n p i.query i.columns → with_verdict i.store v ≡ assessed bs
-  refused-input n p h v g = λ j. with_verdict (e j).store ((g ∙ ap (λ x. refusal_with n p x.query x.columns) (e ∙ input-refused bs n p cause) ∙ sym (judged-refused bs n p cause)) j)
-    where
-      cause : first_cause (input_checks bs) ≡ Refused n p
-      cause = input-cause (Refused n p) h
 
   -- Accepted.
   module _ (h : i.answer ≡ Done) where
@@ -48,6 +40,10 @@ module _ (bs : List ℕ) (i : Input) (e : i ≡ input_of bs) where
 
     pub judged-input : (v : Verdict) → v ≡ judged i.query → with_verdict i.store v ≡ assessed bs
     judged-input v g = λ j. with_verdict (e j).store ((g ∙ ap (λ x. judged x.query) given ∙ sym (judged-done bs (input-cause Done h))) j)
+
+-- Refused.
+pub refused-input : (bs : List ℕ) (n p : ℕ) → refusal n p ≡ input_of bs → with_verdict no_store (verdict_refusal n p) ≡ assessed bs
+refused-input bs n p e = let r = sym (judged-refused bs n p (input-cause bs (refusal n p) e (Refused n p) refl)) in λ j. with_verdict (e j).store (r j)
 
 -- ---- the assessment
 
@@ -81,3 +77,8 @@ module _ (bs : List ℕ) (a : Assessment) (e : a ≡ assessed bs) where
         ap (λ r. (listing_with r.0 a.verdict.safe a.verdict.columns, r.1)) (g ∙ form-evaluated-read answerable a.verdict.form form-made write room out)
         ∙ ap (λ x. (listing_with (evaluated_by write x.store (query_read bs) room out).0 x.verdict.safe x.verdict.columns, (evaluated_by write x.store (query_read bs) room out).1)) assessment
         ∙ sym (listing-done bs (cause Done h) write room out)
+
+-- What was found decides the list.
+pub found-listed : (f : Rows) (safe : Bool) (cols : Columns) → beside (rows_found f) safe cols ≡ listing_with (rows_found f) safe cols
+found-listed rows.Endless safe cols = refl
+found-listed (rows.Rows n) safe cols = refl

@@ -1,13 +1,11 @@
 -- The packed input: document 01, "The list program and the host", and what the calls over it reply. Definitions only; the laws are in Packed/.
-use Rattle.std.specs.Prelude.{ℕ, ◌+◌, ◌*◌, ◌/◌, ◌≡◌, Bool, false, not, ◌&&◌, List, [], ◌∷◌, ◌++◌, length, take, drop, leb}
+use Rattle.std.specs.Prelude.{ℕ, ◌+◌, ◌*◌, ◌/◌, ◌≡◌, Bool, false, not, ◌&&◌, List, [], ◌∷◌, ◌++◌, length, take, drop, leb, Result as Returned, Ok, Err}
 use Rattle.calculus.specs.Lists.{tabulate}
 use Rattle.calculus.specs.Order.{insert}
 use Rattle.calculus.specs.Generators.{columns, verdict, safe}
 use Rattle.calculus.specs.Rows.{Result, Row, listed}
 use Rattle.calculus.specs.Sets.{In}
-use Rattle.causes.specs.declared.Answer.{Answer}
-use Rattle.causes.specs.declared.Answer.TheVariants.{Done, Refused}
-use Rattle.causes.specs.Causes.{Check, check, first_cause, when}
+use Rattle.causes.specs.Causes.{Answer, Done, Refused, Check, check, first_cause, when, number_of, place_of}
 use Rattle.tables.specs.declared.Record.{Record}
 use Rattle.tables.specs.declared.Store.{Store}
 use Rattle.tables.specs.Records.{record_below}
@@ -15,12 +13,11 @@ use Rattle.tables.specs.Fill.{fill_checks, fill_reply}
 use Rattle.query.specs.declared.Query.{Query}
 use Rattle.query.specs.declared.Columns.{Columns}
 use Rattle.query.specs.Reading.{byte_at, word_at, read_of, read_checks, columns_of, formula}
-use Rattle.verdict.specs.declared.Verdict.{Verdict}
-use Rattle.verdict.specs.Verdict.{judged, refusal as verdict_refusal}
-use Rattle.answer.specs.declared.Found.{Found}
-use Rattle.answer.specs.Reply.{result_of, row_checks, Writing, front, front_bytes, worked_by, RightOver, KnownTo}
+use Rattle.verdict.specs.Verdict.{Verdict, judged, refusal as verdict_refusal}
+use Rattle.answer.specs.Reply.{Found, result_of, row_checks, Writing, front, front_bytes, worked_by, RightOver, KnownTo, rows_found}
 use Rattle.packed.specs.declared.part.Head.{Head}
-use Rattle.packed.specs.declared.Listing.{Listing}
+use Rattle.causes.specs.declared.Refusal.{Refusal}
+use Rattle.packed.specs.declared.Listing.{Listing as Listed_in}
 
 -- ---- the parts, all high byte first
 
@@ -113,12 +110,25 @@ result_in bs = result_of (store_in bs) (query_read bs)
 abbrev pub list_checks : List ℕ → ℕ → List Check
 list_checks bs room = input_checks bs ++ row_checks (store_in bs) (query_read bs) room
 
+-- What the list of an input is: whether its query is safe-range, its columns, and whether infinitely many rows satisfy it, or how many do.
+pub record Listing : Type 0 where
+  pub answer : Answer
+  pub safe : Bool
+  pub columns : Columns
+  pub endless : Bool
+  pub rows : ℕ
+
 abbrev pub declined : ℕ → ℕ → Listing
 declined n p = record { answer = Refused n p; safe = false; columns = columns_of []; endless = false; rows = 0 }
 
 -- What was found, with the verdict and the columns of the query beside it.
 abbrev pub beside : Found → Bool → Columns → Listing
 beside f safe cols = record { answer = Done; safe = safe; columns = cols; endless = f.endless; rows = f.rows }
+
+-- What a listing comes to by what the code hands back (here `Listed_in`).
+abbrev pub listing_found : Returned Listed_in Refusal → Listing
+listing_found (Ok l) = beside (rows_found l.found) l.safe l.columns
+listing_found (Err r) = declined (number_of r) (place_of r)
 
 -- Endless or rows as the answers call has them, with the rows in the buffer; or the refusal, and the buffer as it was.
 abbrev pub listing_reply : Writing (List ℕ) → Answer → Query → Result → List ℕ → Listing × List ℕ

@@ -7,12 +7,14 @@
 
 mod part;
 
-ghost use Rattle.std.specs.Prelude.{◌≡◌, replicate};
-ghost use Rattle.packed.specs.Code.Packed.{refusal, input_of, assessed, listing_with};
-ghost use Rattle.packed.specs.Packed.{judged_of, declined, listing_of, byte_listing_of};
+ghost use Rattle.std.specs.Prelude.{◌≡◌, replicate, Ok};
+ghost use Rattle.verdict.specs.Verdict.{judging_of};
+ghost use Rattle.packed.specs.Code.Packed.{input_in, input_of, assessment_in, assessed};
+ghost use Rattle.answer.specs.Reply.{rows_found};
+ghost use Rattle.packed.specs.Packed.{judged_of, beside, listing_found, listing_of, byte_listing_of};
 
 use answer::Found;
-use causes::Answer;
+use causes::Refusal;
 use query::{Columns, Query};
 use tables::Store;
 use verdict::Verdict;
@@ -27,31 +29,27 @@ pub const RECORD: usize = 17;
 // The numbers that a list has room for in the list program.
 pub const ROOM: usize = 4096;
 
-// What an input holds: the store of its records, and its query with the columns. A refusal comes with nothing else.
+// What an input holds: the store of its records, and its query with the columns.
 #[derive(Clone, Copy)]
 pub struct Input {
-    pub answer: Answer,
     pub store: Store,
     pub query: Query,
     pub columns: Columns,
 }
 
-// An input as judged: the store of its records, and the verdict on its query, with the query's form and columns; or the verdict's refusal, and no records.
+// An input as judged: the store of its records, and the verdict on its query, with the query's form and columns.
 #[derive(Clone, Copy)]
 pub struct Assessment {
     pub store: Store,
     pub verdict: Verdict,
 }
 
-// What the list of an input's query is: whether the query is safe-range, its columns, and whether infinitely many rows satisfy it, or how many do. A refusal
-// comes with nothing else.
+// What the list of an input's query is: whether the query is safe-range, its columns, and whether infinitely many rows satisfy it, or how many do.
 #[derive(Clone, Copy)]
 pub struct Listing {
-    pub answer: Answer,
     pub safe: bool,
     pub columns: Columns,
-    pub endless: bool,
-    pub rows: usize,
+    pub found: Found,
 }
 
 // The room of the list program, as zeros.
@@ -61,146 +59,69 @@ pub fn room() -> [u32; ROOM]
     [0u32; ROOM]
 }
 
-// What a refused input holds: no relation and no record, no node and no column.
-fn refused(number: u8, place: u64) -> Input
-    ensures { result ≡ refusal number place }
-{
-    let reading = query::refused(number, place);
-    let query = reading.query;
-    let columns = reading.columns;
-    Input {
-        answer: Answer::Refused(number, place),
-        store: tables::fill::none(),
-        query,
-        columns,
-    }
-}
-
 // What the bytes hold: causes 2, then 1 and 3 to 10 of the query, then 13 and 15 of the records. The query is handed to the reader as the rest of the bytes.
-fn take(bytes: &[u8]) -> Input
-    ensures { result ≡ input_of bytes.now }
+fn take(bytes: &[u8]) -> Result<Input, Refusal>
+    ensures { input_in result ≡ input_of bytes.now }
 {
-    let extent = part::measure(bytes);
-    if !extent.whole {
-        return refused(2, 0);
-    }
-    let head = extent.head;
-    let widths = head.widths;
-    let n = head.count;
-    let from = HEAD + RECORD * n;
-    let reading = query::read(&bytes[from..], widths);
-    let answer = reading.answer;
-    if let Answer::Refused(number, place) = answer {
-        return refused(number, place);
-    }
-    let filled = part::fill(bytes, widths, n);
-    let outcome = filled.answer;
-    if let Answer::Refused(number, place) = outcome {
-        return refused(number, place);
-    }
-    let store = filled.store;
-    let query = reading.query;
-    let columns = reading.columns;
-    Input {
-        answer: Answer::Done,
+    let Some(head) = part::measure(bytes) else {
+        return Err(Refusal::StoreLayout);
+    };
+    let from = HEAD + RECORD * head.count;
+    let read = query::read(&bytes[from..], head.widths)?;
+    let store = part::fill(bytes, head)?;
+    Ok(Input {
         store,
-        query,
-        columns,
-    }
+        query: read.query,
+        columns: read.columns,
+    })
 }
 
 // The store of an input beside the verdict on its query: causes 2, then 1 and 3 to 10, then 13 and 15.
-fn assess(bytes: &[u8]) -> Assessment
-    ensures { result ≡ assessed bytes.now }
+fn assess(bytes: &[u8]) -> Result<Assessment, Refusal>
+    ensures { assessment_in result ≡ assessed bytes.now }
 {
-    let input = take(bytes);
-    let answer = input.answer;
-    let store = input.store;
-    let query = input.query;
-    let columns = input.columns;
-    if let Answer::Refused(number, place) = answer {
-        return Assessment {
-            store,
-            verdict: verdict::refused(number, place, query, columns),
-        };
-    }
-    Assessment {
-        store,
-        verdict: verdict::judged(query, columns),
-    }
+    let input = take(bytes)?;
+    Ok(Assessment {
+        store: input.store,
+        verdict: verdict::judged(input.query, input.columns),
+    })
 }
 
 // The verdict on the query of an input: causes 2, then 1 and 3 to 10, then 13 and 15.
-pub fn judge(bytes: &[u8]) -> Verdict
-    ensures { result ≡ judged_of bytes.now }
+pub fn judge(bytes: &[u8]) -> Result<Verdict, Refusal>
+    ensures { judging_of result ≡ judged_of bytes.now }
 {
-    let assessment = assess(bytes);
-    assessment.verdict
+    let assessment = assess(bytes)?;
+    Ok(assessment.verdict)
 }
 
-// The reply of a refusal, with the columns of a refused input: none.
-fn refused_listing(number: u8, place: u64) -> Listing
-    ensures { result ≡ declined number place }
+// What was found, with the verdict and the columns beside it.
+fn list(verdict: &Verdict, found: Found) -> Listing
+    ensures { listing_found (Ok result) ≡ beside (rows_found found) verdict.now.safe verdict.now.columns }
 {
-    let reading = query::refused(number, place);
-    let columns = reading.columns;
     Listing {
-        answer: Answer::Refused(number, place),
-        safe: false,
-        columns,
-        endless: false,
-        rows: 0,
-    }
-}
-
-// What was found, with the verdict and the columns beside it; or its refusal.
-fn list(found: Found, safe: bool, columns: Columns) -> Listing
-    ensures { result ≡ listing_with found safe columns }
-{
-    let answer = found.answer;
-    if let Answer::Refused(number, place) = answer {
-        return refused_listing(number, place);
-    }
-    Listing {
-        answer: Answer::Done,
-        safe,
-        columns,
-        endless: found.endless,
-        rows: found.rows,
+        safe: verdict.safe,
+        columns: verdict.columns,
+        found,
     }
 }
 
 // The list of an input's query: causes 2, then 1 and 3 to 10, then 13 and 15, then 18. The rows stand at the front of the lent list, the rest of which is
 // unaltered; a refusal leaves it whole.
-pub fn find(bytes: &[u8], out: &mut [u32]) -> Listing
-    ensures { (result, out.new) ≡ listing_of bytes.now out.old }
+pub fn find(bytes: &[u8], out: &mut [u32]) -> Result<Listing, Refusal>
+    ensures { (listing_found result, out.new) ≡ listing_of bytes.now out.old }
 {
-    let assessment = assess(bytes);
-    let verdict = assessment.verdict;
-    let answer = verdict.answer;
-    if let Answer::Refused(number, place) = answer {
-        return refused_listing(number, place);
-    }
-    let store = assessment.store;
-    let form = verdict.form;
-    let columns = verdict.columns;
-    let found = answer::evaluate(store, form, columns, out);
-    list(found, verdict.safe, columns)
+    let Assessment { store, verdict } = assess(bytes)?;
+    let found = answer::evaluate(store, verdict.form, verdict.columns, out)?;
+    Ok(list(&verdict, found))
 }
 
 // The list of an input's query, its rows as bytes, four to a number, high byte first, with room for a quarter of the bytes: the causes of `find`.
-pub fn find_bytes(bytes: &[u8], out: &mut [u8]) -> Listing
-    ensures { (result, out.new) ≡ byte_listing_of bytes.now out.old }
+// Stays: beside `find` it calls another function of `answer`, and their clauses name two definitions.
+pub fn find_bytes(bytes: &[u8], out: &mut [u8]) -> Result<Listing, Refusal>
+    ensures { (listing_found result, out.new) ≡ byte_listing_of bytes.now out.old }
 {
-    let assessment = assess(bytes);
-    let verdict = assessment.verdict;
-    let answer = verdict.answer;
-    if let Answer::Refused(number, place) = answer {
-        return refused_listing(number, place);
-    }
-    let store = assessment.store;
-    let form = verdict.form;
-    let columns = verdict.columns;
-    let found = answer::evaluate_bytes(store, form, columns, out);
-    list(found, verdict.safe, columns)
+    let Assessment { store, verdict } = assess(bytes)?;
+    let found = answer::evaluate_bytes(store, verdict.form, verdict.columns, out)?;
+    Ok(list(&verdict, found))
 }

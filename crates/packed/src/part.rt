@@ -2,13 +2,15 @@
 // for bytes that are there, having judged the length by `measure` first.
 ghost use Rattle.std.specs.Prelude.{◌≡◌, ◌+◌, ◌≤◌, ◌<◌, length};
 ghost use Rattle.calculus.specs.Lists.{tabulate};
+ghost use Rattle.tables.specs.Store.{no_store};
+ghost use Rattle.tables.specs.Change.{changed_of};
 ghost use Rattle.tables.specs.Code.Fill.{beginning, collect_all};
 ghost use Rattle.packed.specs.Packed.{head_length, head_in, record_length, record_from, start, record_at};
-ghost use Rattle.packed.specs.Code.Packed.{no_extent, extent_of};
+ghost use Rattle.packed.specs.Code.Packed.{extent_in, extent_of};
 
 use crate::{HEAD, LIMIT, RECORD};
-use causes::RELATIONS;
-use tables::{Changed, Record};
+use causes::{RELATIONS, Refusal};
+use tables::{Record, Store};
 
 // The head of an input: the sixteen widths, and the number of records.
 #[derive(Clone, Copy)]
@@ -17,62 +19,33 @@ pub struct Head {
     pub count: usize,
 }
 
-// How far an input reaches: whether it is whole, and then its head.
-#[derive(Clone, Copy)]
-pub struct Extent {
-    pub whole: bool,
-    pub head: Head,
-}
-
 // The head of an input that is long enough to have one. No other function knows where its parts stand.
 fn read_head(bytes: &[u8]) -> Head
     requires { head_length ≤ length bytes.now }
     ensures { (result ≡ head_in bytes.now) × (result.count < 65536) }
 {
     let mut widths = [0u8; RELATIONS];
-    let mut i = 0;
-    while i < RELATIONS {
-        widths[i] = bytes[i];
-        i += 1;
-    }
-    let high = query::wide(bytes[16]);
-    let low = query::wide(bytes[17]);
+    widths.copy_from_slice(&bytes[..RELATIONS]);
+    let count = u16::from_be_bytes([bytes[16], bytes[17]]);
     Head {
         widths,
-        count: (high * 256 + low) as usize,
+        count: usize::from(count),
     }
 }
 
-// The extent of an input that ends before its query, or is over 8,192 bytes: cause 2 is met.
-fn broken() -> Extent
-    ensures { result ≡ no_extent }
-{
-    Extent {
-        whole: false,
-        head: Head {
-            widths: [0u8; RELATIONS],
-            count: 0,
-        },
-    }
-}
-
-// How far the bytes reach: they are whole where they are at most 8,192 and reach to the query.
-pub fn measure(bytes: &[u8]) -> Extent
-    ensures { result ≡ extent_of bytes.now }
+// The head of an input that is whole: at most 8,192 bytes, which reach to the query. None where cause 2 is met.
+pub fn measure(bytes: &[u8]) -> Option<Head>
+    ensures { extent_in result ≡ extent_of bytes.now }
 {
     let n = bytes.len();
-    if LIMIT < n {
-        return broken();
-    }
-    if n < HEAD {
-        return broken();
+    if LIMIT < n || n < HEAD {
+        return None;
     }
     let head = read_head(bytes);
-    let count = head.count;
-    if n < HEAD + RECORD * count {
-        return broken();
+    if n < HEAD + RECORD * head.count {
+        return None;
     }
-    Extent { whole: true, head }
+    Some(head)
 }
 
 // The record that starts at a byte.
@@ -89,17 +62,15 @@ fn record(bytes: &[u8], at: usize) -> Record
     }
 }
 
-// The store filled from the first n records: cause 1, then 13 and 15 record by record.
-pub fn fill(bytes: &[u8], widths: [u8; RELATIONS], n: usize) -> Changed
-    requires { (start n ≤ length bytes.now) × (n < 65536) }
-    ensures { result ≡ collect_all (beginning widths) (tabulate (record_at bytes.now) n) }
+// The store filled from the records after a head: cause 1, then 13 and 15 record by record.
+pub fn fill(bytes: &[u8], head: Head) -> Result<Store, Refusal>
+    requires { (start head.count ≤ length bytes.now) × (head.count < 65536) }
+    ensures { changed_of no_store result ≡ collect_all (beginning head.widths) (tabulate (record_at bytes.now) head.count) }
 {
-    let mut f = tables::fill::begin(widths);
-    let mut i = 0;
-    while i < n {
+    let mut f = tables::fill::begin(head.widths);
+    for i in 0..head.count {
         let r = record(bytes, HEAD + RECORD * i);
         f = tables::fill::collect(f, r.relation, r.first, r.second, r.third, r.fourth);
-        i += 1;
     }
     f
 }

@@ -8,9 +8,8 @@ use Rattle.calculus.specs.Satisfaction.{fact, Database, Pool}
 use Rattle.calculus.specs.Generators.{columns, Verdict, verdict}
 use Rattle.calculus.specs.SafeRange.{SafeRange}
 use Rattle.calculus.specs.Rows.{Result, endless, listed, Right}
-use Rattle.causes.specs.declared.Answer.TheVariants.{Done}
-use Rattle.query.specs.declared.Reading.{Reading}
-use Rattle.query.specs.Reading.{read_of, pool, formula}
+use Rattle.causes.specs.Causes.{Done}
+use Rattle.query.specs.Reading.{Reading, read_of, pool, formula}
 use Rattle.query.specs.Packing.{pack}
 
 -- A worked case: the records, the packed query with the formula and constants that it is the packing of, and what documents 01 and 02 say of it.

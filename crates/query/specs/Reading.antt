@@ -1,18 +1,17 @@
 -- The reader's reply: document 01, "The packed query" and causes 1 and 3 to 10. Definitions only; the laws are in Reading/Laws.antt.
-use Rattle.std.specs.Prelude.{ℕ, ◌+◌, ◌*◌, ◌/◌, ◌%◌, ◌<◌, not, ◌||◌, List, [], ◌∷◌, ◌++◌, length, get_or, take, eqb, ltb}
+use Rattle.std.specs.Prelude.{ℕ, ◌+◌, ◌*◌, ◌/◌, ◌%◌, ◌<◌, not, ◌||◌, List, [], ◌∷◌, ◌++◌, length, get_or, take, eqb, ltb, Result, Ok, Err}
 use Rattle.calculus.specs.Sets.{In}
 use Rattle.calculus.specs.Lists.{tabulate, padded}
 use Rattle.calculus.specs.Formula.{Fmla}
 use Rattle.calculus.specs.Satisfaction.{Pool}
 use Rattle.calculus.specs.Generators.{columns}
-use Rattle.causes.specs.declared.Answer.{Answer}
-use Rattle.causes.specs.declared.Answer.TheVariants.{Done, Refused}
-use Rattle.causes.specs.Causes.{Check, check, first_cause, when, lowest, widths_fit}
+use Rattle.causes.specs.Causes.{Answer, Done, Refused, Check, check, first_cause, when, lowest, widths_fit, number_of, place_of}
 use Rattle.query.specs.declared.Query.{Query}
 use Rattle.query.specs.declared.Columns.{Columns}
-use Rattle.query.specs.declared.Reading.{Reading}
 use Rattle.query.specs.Nodes.{malformed, misplaced, strays, mismatched}
 use Rattle.query.specs.Decoding.{root}
+use Rattle.causes.specs.declared.Refusal.{Refusal}
+use Rattle.query.specs.declared.Parsed.{Parsed}
 
 -- ---- limits
 
@@ -82,6 +81,12 @@ read_checks ws bs = header_checks ws bs ++ (tree_checks ws (count_of_constants b
 
 -- ---- the reply
 
+-- What reading answers: the query and its columns beside the answer.
+pub record Reading : Type 0 where
+  pub answer : Answer
+  pub query : Query
+  pub columns : Columns
+
 abbrev pub query_of : List ℕ → List ℕ → Query
 query_of cs ns = record { constants = padded max_constants 0 cs; constant_count = length cs; nodes = padded max_nodes 0 ns; node_count = length ns }
 
@@ -94,6 +99,11 @@ variables_in c = take c.count c.variables
 
 abbrev pub refusal : ℕ → ℕ → Reading
 refusal n p = record { answer = Refused n p; query = query_of [] []; columns = columns_of [] }
+
+-- What reading comes to by what it hands back. A refusal comes with no nodes and no columns.
+abbrev pub reading_of : Result Parsed Refusal → Reading
+reading_of (Ok p) = record { answer = Done; query = p.query; columns = p.columns }
+reading_of (Err r) = refusal (number_of r) (place_of r)
 
 abbrev pub accepted : List ℕ → List ℕ → Reading
 accepted cs ns = record { answer = Done; query = query_of cs ns; columns = columns_of (columns (root ns)) }

@@ -14,9 +14,9 @@ mod unpack;
 pub mod write;
 
 ghost use Rattle.std.specs.Prelude.{◌≡◌};
-ghost use Rattle.query.specs.Reading.{read_of, refusal};
+ghost use Rattle.query.specs.Reading.{read_of, reading_of};
 
-use causes::{Answer, RELATIONS};
+use causes::{RELATIONS, Refusal};
 pub use free::is_free;
 pub use unpack::{wide, word};
 
@@ -30,6 +30,7 @@ pub const COLUMNS: usize = 4;
 pub const VARIABLES: u8 = 16;
 
 // An accepted query: its constants and nodes, with zeros in the places past the counts.
+// Stays: there is no heap, so each list has places for the most that it may hold, and a count.
 #[derive(Clone, Copy)]
 pub struct Query {
     pub constants: [u32; CONSTANTS],
@@ -39,63 +40,35 @@ pub struct Query {
 }
 
 // The free variables of a query as read, ascending, with zeros in the places past the count.
-#[derive(Clone, Copy)]
+// Stays: there is no heap, so there are places for the most variables, and a count.
+#[derive(Clone, Copy, PartialEq, Eq)]
 pub struct Columns {
     pub variables: [u8; COLUMNS],
     pub count: usize,
 }
 
-// What reading answers. A refusal comes with no nodes and no columns.
+// What reading hands back of an accepted query.
 #[derive(Clone, Copy)]
-pub struct Reading {
-    pub answer: Answer,
+pub struct Parsed {
     pub query: Query,
     pub columns: Columns,
 }
 
-// The reply of a refusal. For calls that are refused before they read a query, too.
-pub fn refused(number: u8, place: u64) -> Reading
-    ensures { result ≡ refusal number place }
-{
-    let query = Query {
-        constants: [0u32; CONSTANTS],
-        constant_count: 0,
-        nodes: [0u32; NODES],
-        node_count: 0,
-    };
-    let columns = Columns {
-        variables: [0u8; COLUMNS],
-        count: 0,
-    };
-    Reading {
-        answer: Answer::Refused(number, place),
-        query,
-        columns,
-    }
-}
-
 // The query that the bytes hold, for relations of these widths: causes 1 and 3 to 10.
-pub fn read(bytes: &[u8], widths: [u8; RELATIONS]) -> Reading
-    ensures { result ≡ read_of widths bytes.now }
+pub fn read(bytes: &[u8], widths: [u8; RELATIONS]) -> Result<Parsed, Refusal>
+    ensures { reading_of result ≡ read_of widths bytes.now }
 {
-    let header = judge::header(bytes, widths);
-    if let Answer::Refused(number, place) = header {
-        return refused(number, place);
-    }
+    judge::header(bytes, widths)?;
     let n = unpack::node_count(bytes);
     let k = unpack::constant_count(bytes);
     let mut constants = [0u32; CONSTANTS];
-    unpack::words(bytes, 2, k, &mut constants);
+    unpack::words(bytes, 2, &mut constants[..k]);
     let mut nodes = [0u32; NODES];
-    unpack::words(bytes, 2 + 4 * k, n, &mut nodes);
-    let tree = judge::tree(&nodes, n, k, &widths);
-    if let Answer::Refused(number, place) = tree {
-        return refused(number, place);
-    }
-    let columns = free::columns(&nodes, n);
-    let width = columns.count;
-    if COLUMNS < width {
-        return refused(10, 0);
+    unpack::words(bytes, 2 + 4 * k, &mut nodes[..n]);
+    judge::tree(&nodes[..n], k, &widths)?;
+    let columns = free::columns(&nodes[..n]);
+    if COLUMNS < columns.count {
+        return Err(Refusal::Columns);
     }
     let query = Query {
         constants,
@@ -103,9 +76,5 @@ pub fn read(bytes: &[u8], widths: [u8; RELATIONS]) -> Reading
         nodes,
         node_count: n,
     };
-    Reading {
-        answer: Answer::Done,
-        query,
-        columns,
-    }
+    Ok(Parsed { query, columns })
 }

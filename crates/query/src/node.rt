@@ -1,11 +1,11 @@
 // A packed node: its fields, its word, and tests of its terms. A node is a 32-bit number whose first 3 bits are its kind; its fields follow, most significant
-// first. Only this module knows where they stand: everybody else reads a node by `fields` and writes one by the functions of its kind. Those that write ask for
-// numbers that have room in their fields, as the numbers of a form's nodes and a query's variables have.
-ghost use Rattle.std.specs.Prelude.{◌≡◌, ◌≤◌, ◌<◌, [], ◌∷◌, get_or, take};
+// first. Only this module knows where they stand: everybody else reads a node by `of`, or by `fields` where its kind is known, and writes one by the functions of
+// its kind. Those that write ask for numbers that have room in their fields, as the numbers of a form's nodes and a query's variables have.
+ghost use Rattle.std.specs.Prelude.{◌≡◌, ◌<◌, [], ◌∷◌, get_or, take};
 ghost use Rattle.calculus.specs.Sets.{any_of};
 ghost use Rattle.query.specs.Nodes.{record_word, equality_word, not_word, join_word, exists_word};
 ghost use Rattle.query.specs.Reading.{max_nodes};
-ghost use Rattle.query.specs.Code.Fields.{NodeOf, rest_of, itself};
+ghost use Rattle.query.specs.Code.Fields.{NodeOf, IsNode, kind_of, rest_of, itself};
 
 // The words of the truth values.
 pub const FALSE: u32 = 0;
@@ -14,8 +14,8 @@ pub const TRUE: u32 = 268435456;
 
 // The fields of a node: `truth` is its truth bit, `count` and `terms` are a record's, `term` is an equality's. A node has those of its kind; the others are what
 // stands at their bits.
-#[derive(Clone, Copy)]
-pub struct Node {
+#[derive(Clone, Copy, Debug, PartialEq, Eq)]
+pub struct Parts {
     pub kind: u32,
     pub truth: u32,
     pub relation: u32,
@@ -28,11 +28,61 @@ pub struct Node {
     pub under: usize,
 }
 
-// The fields of a node.
-pub fn fields(w: u32) -> Node
+// The two kinds of nodes over two others.
+#[derive(Clone, Copy, Debug, PartialEq, Eq)]
+pub enum Connective {
+    And,
+    Or,
+}
+
+// The fields of a record.
+#[derive(Clone, Copy, Debug, PartialEq, Eq)]
+pub struct Atom {
+    pub relation: u32,
+    pub count: u32,
+    pub terms: [u32; 4],
+}
+
+// A node by its kind: an equality has its variable and its term, a not its child, a join its children, an exists its variable and its child.
+#[derive(Clone, Copy, Debug, PartialEq, Eq)]
+pub enum Node {
+    Truth(bool),
+    Record(Atom),
+    Equality(u32, u32),
+    Not(usize),
+    Join(Connective, usize, usize),
+    Exists(u32, usize),
+    Unknown,
+}
+
+// The node of a word, taken apart.
+pub fn of(w: u32) -> Node
+    ensures { IsNode w result }
+{
+    let f = fields(w);
+    let terms = f.terms;
+    match f.kind {
+        0 => Node::Truth(f.truth == 1),
+        1 => Node::Record(Atom {
+            relation: f.relation,
+            count: f.count,
+            terms,
+        }),
+        2 => Node::Equality(f.variable, f.term),
+        3 => Node::Not(f.left),
+        4 => Node::Join(Connective::And, f.left, f.right),
+        5 => Node::Join(Connective::Or, f.left, f.right),
+        6 => Node::Exists(f.variable, f.under),
+        _ => Node::Unknown,
+    }
+}
+
+// All fields of a node, whatever its kind: for those that know the kind.
+// Stays: where the kind is known, a match on `of` would have arms that can't come, and be no plainer.
+pub fn fields(w: u32) -> Parts
     ensures { NodeOf w result }
 {
-    Node {
+    Parts {
         kind: w / 536870912,
         truth: w / 268435456 % 2,
         relation: w / 33554432 % 16,
@@ -50,15 +100,14 @@ pub fn fields(w: u32) -> Node
 pub fn rest(w: u32) -> u32
     ensures { result ≡ rest_of w }
 {
-    let kind = w / 536870912;
-    match kind {
-        0 => w % 268435456,
-        1 => w % 4,
-        2 => w % 1048576,
-        3 => w % 8388608,
-        4 | 5 => w % 131072,
-        6 => w % 524288,
-        _ => 0,
+    match of(w) {
+        Node::Truth(_) => w % 268435456,
+        Node::Record(_) => w % 4,
+        Node::Equality(..) => w % 1048576,
+        Node::Not(_) => w % 8388608,
+        Node::Join(..) => w % 131072,
+        Node::Exists(..) => w % 524288,
+        Node::Unknown => 0,
     }
 }
 
@@ -89,12 +138,16 @@ pub fn negation(child: usize) -> u32
     3 * 536870912 + child as u32 * 8388608
 }
 
-// An and (kind 4) or an or (kind 5) over two nodes.
-pub fn junction(kind: u32, left: usize, right: usize) -> u32
-    requires { (4 ≤ kind) × (kind ≤ 5) × (left < max_nodes) × (right < max_nodes) }
-    ensures { result ≡ join_word kind left right }
+// An and or an or over two nodes.
+pub fn junction(kind: Connective, left: usize, right: usize) -> u32
+    requires { (left < max_nodes) × (right < max_nodes) }
+    ensures { result ≡ join_word (kind_of kind) left right }
 {
-    kind * 536870912 + left as u32 * 8388608 + right as u32 * 131072
+    let code: u32 = match kind {
+        Connective::And => 4,
+        Connective::Or => 5,
+    };
+    code * 536870912 + left as u32 * 8388608 + right as u32 * 131072
 }
 
 // An exists over a node.
@@ -106,29 +159,9 @@ pub fn existence(variable: u32, child: usize) -> u32
 }
 
 // Whether one of the first count of four tests is true.
+// Stays: a public function, with its promise. Four tests by value need no closure.
 pub fn some_of(count: u32, a: bool, b: bool, c: bool, d: bool) -> bool
     ensures { result ≡ any_of itself (take count (a ∷ b ∷ c ∷ d ∷ [])) }
 {
-    if count == 0 {
-        return false;
-    }
-    if a {
-        return true;
-    }
-    if count == 1 {
-        return false;
-    }
-    if b {
-        return true;
-    }
-    if count == 2 {
-        return false;
-    }
-    if c {
-        return true;
-    }
-    if count == 3 {
-        return false;
-    }
-    d
+    [a, b, c, d].iter().take(count as usize).any(|test| *test)
 }

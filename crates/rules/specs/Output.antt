@@ -1,11 +1,9 @@
 -- What the program `rule` prints: document 02, Point 1. Bytes are ASCII. Definitions only; the laws are in Output/Laws.antt.
 use Rattle.std.specs.Prelude.{ℕ, ◌≡◌, List, [], ◌∷◌, ◌++◌, length, take, drop}
 use Rattle.calculus.specs.Decimal.{numeral}
-use Rattle.causes.specs.declared.Answer.{Answer}
-use Rattle.causes.specs.declared.Answer.TheVariants.{Done, Refused}
-use Rattle.rules.specs.declared.Packing.{Packing}
+use Rattle.causes.specs.Causes.{Answer, Done, Refused}
+use Rattle.rules.specs.Reply.{Packing, packing}
 use Rattle.rules.specs.Grammar.{Parse}
-use Rattle.rules.specs.Reply.{packing}
 
 -- refused
 abbrev pub word_refused : List ℕ

@@ -1,17 +1,17 @@
 -- The replies of the calls over rule text: document 02, Point 1. Definitions only; the laws are in Reply/Laws.antt.
-use Rattle.std.specs.Prelude.{ℕ, ◌≡◌, ◌↔◌, cond, List, [], length, take, T}
+use Rattle.std.specs.Prelude.{ℕ, ◌≡◌, ◌↔◌, cond, List, [], length, take, T, Result, Ok, Err}
 use Rattle.calculus.specs.Lists.{padded}
 use Rattle.calculus.specs.Satisfaction.{Database}
 use Rattle.calculus.specs.Generators.{columns}
 use Rattle.calculus.specs.Rows.{Row, RowSat}
-use Rattle.causes.specs.declared.Answer.TheVariants.{Done, Refused}
-use Rattle.causes.specs.Causes.{widths_fit}
-use Rattle.query.specs.declared.Reading.{Reading}
-use Rattle.query.specs.Reading.{query_of, columns_of, read_of, refusal, pool, formula}
+use Rattle.causes.specs.Causes.{Done, Refused, widths_fit, Answer, refusal_of}
+use Rattle.query.specs.Reading.{Reading, query_of, columns_of, read_of, refusal, pool, formula}
 use Rattle.query.specs.Packing.{words, pack}
-use Rattle.rules.specs.declared.Packing.{Packing}
 use Rattle.rules.specs.Grammar.{Rule, Parse, parsed, outside}
 use Rattle.rules.specs.Meaning.{head, goals, RuleRow, pool_of, formula_of, overstepped, Allowed}
+use Rattle.causes.specs.declared.Refusal.{Refusal}
+use Rattle.query.specs.declared.Query.{Query}
+use Rattle.rules.specs.declared.Packing.{Packing as Packed}
 
 -- The bytes of the longest packed query: 2, 16 constants and 64 nodes of 4.
 abbrev pub max_bytes : ℕ
@@ -20,6 +20,13 @@ max_bytes = 322
 -- The packed query of a rule.
 abbrev pub bytes_of : Rule → List ℕ
 bytes_of R = pack (pool_of (goals R)) (formula_of R)
+
+-- What packing a rule answers: the query, and its packed bytes, with zeros in the places past their number.
+pub record Packing : Type 0 where
+  pub answer : Answer
+  pub query : Query
+  pub bytes : List ℕ
+  pub size : ℕ
 
 -- A refusal comes with nothing.
 abbrev pub refused : ℕ → Packing
@@ -33,6 +40,11 @@ packed R =
       bytes = padded max_bytes 0 (bytes_of R);
       size = length (bytes_of R);
     }
+
+-- What packing comes to by what the code hands back (here `Packed`).
+abbrev pub packing_in : Result Packed Refusal → Packing
+packing_in (Ok p) = record { answer = Done; query = p.query; bytes = p.bytes; size = p.size }
+packing_in (Err r) = record { answer = refusal_of r; query = query_of [] []; bytes = padded max_bytes 0 []; size = 0 }
 
 -- The reply to the text of a rule, of this length.
 abbrev pub rule_packing : Rule → ℕ → Packing

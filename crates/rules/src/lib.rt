@@ -7,76 +7,86 @@
 
 mod draft;
 mod finish;
+mod kept;
 mod mode;
 mod output;
 mod scan;
 
-ghost use Rattle.rules.specs.Reply.{PackReply, ReadReply};
+ghost use Rattle.std.specs.Prelude.{◌≡◌, ◌≤◌, length, take};
+ghost use Rattle.rules.specs.Reply.{PackReply, ReadReply, max_bytes, packing_in};
+ghost use Rattle.query.specs.Reading.{reading_of};
 
-use causes::{Answer, RELATIONS};
+use causes::{RELATIONS, Refusal};
+use mode::{Effect, Mode};
 pub use output::print;
-use query::{CONSTANTS, NODES, Query, Reading};
+use query::{CONSTANTS, NODES, Parsed, Query};
 
 // The bytes of the longest packed query.
 pub const PACKED: usize = 322;
 
-// What packing a rule answers: the query by value, and its packed bytes, with zeros in the places past their number. A refusal comes with nothing.
+// A packed rule: the query by value, and its packed bytes, with zeros in the places past their number.
+// Stays: an array and a size, as it is handed back by value and there is no heap.
 #[derive(Clone, Copy)]
 pub struct Packing {
-    pub answer: Answer,
     pub query: Query,
     pub bytes: [u8; PACKED],
     pub size: usize,
 }
 
+impl Packing {
+    // The packed bytes. For a packing of this crate, whose size is that of a packed query.
+    fn packed(&self) -> &[u8]
+        requires { self.now.size ≤ max_bytes }
+        ensures value { result.now ≡ take self.now.size self.now.bytes }
+        ensures few { length result.now ≤ max_bytes }
+    {
+        &self.bytes[..self.size]
+    }
+}
+
 // The query of a rule's text: cause 20. Each text is a rule's or leaves the grammar at a place (`parse`), and the reply is that of either.
-pub fn pack(text: &[u8]) -> Packing
-    ensures { PackReply text.now result }
+pub fn pack(text: &[u8]) -> Result<Packing, Refusal>
+    ensures { PackReply text.now (packing_in result) }
 {
     let mut constants = [0u32; CONSTANTS];
     let mut nodes = [0u32; NODES];
     let mut here = scan::start();
-    let mut head = draft::no_head();
-    let mut body = draft::no_goals();
-    let mut i = 0;
-    while i < text.len() {
-        let b = text[i];
-        let number = here.number;
-        let mode = here.mode;
-        let effect = scan::effect(mode, b);
-        here = scan::step(here, b);
-        let reached = here.mode;
-        if mode::stage(reached) == mode::OUT {
-            return finish::refused(i as u64);
+    let mut head = Some(draft::no_head());
+    let mut body = Some(draft::no_goals());
+    for (i, b) in text.iter().enumerate() {
+        let before = here;
+        here = scan::step(before, *b);
+        if here.mode == Mode::Out {
+            return Err(Refusal::Text(i as u64));
         }
-        i += 1;
-        if effect == mode::NOTHING {
-            continue;
+        let number = before.number.unwrap_or(0);
+        match scan::effect(before.mode, *b) {
+            Effect::Nothing => {}
+            Effect::Column => {
+                if let Some(h) = head {
+                    head = draft::column(h, number);
+                }
+            }
+            effect => {
+                if let Some(g) = body {
+                    body = scan::goals(effect, g, number, &mut constants, &mut nodes);
+                }
+            }
         }
-        if effect == mode::COLUMN {
-            head = draft::column(head, number);
-            continue;
-        }
-        body = scan::goals(effect, body, number, &mut constants, &mut nodes);
     }
-    let end = here.mode;
-    if mode::stage(end) != mode::DONE {
-        return finish::refused(i as u64);
+    let length = text.len() as u64;
+    if here.mode != Mode::Done {
+        return Err(Refusal::Text(length));
     }
-    finish::finish(head, body, constants, nodes, i as u64)
+    let columns = head.ok_or(Refusal::Text(length))?;
+    let goals = body.ok_or(Refusal::Text(length))?;
+    finish::finish(columns, goals, constants, nodes, length)
 }
 
 // A rule's text read as `query::read` reads its packed query, for relations of these widths: cause 20, then 1, then 9.
-pub fn read(text: &[u8], widths: [u8; RELATIONS]) -> Reading
-    ensures { ReadReply widths text.now result }
+pub fn read(text: &[u8], widths: [u8; RELATIONS]) -> Result<Parsed, Refusal>
+    ensures { ReadReply widths text.now (reading_of result) }
 {
-    let p = pack(text);
-    let answer = p.answer;
-    if let Answer::Refused(number, place) = answer {
-        return query::refused(number, place);
-    }
-    let bytes = p.bytes;
-    let whole = &bytes;
-    let all: &[u8] = whole;
-    query::read(&all[..p.size], widths)
+    let p = pack(text)?;
+    query::read(p.packed(), widths)
 }

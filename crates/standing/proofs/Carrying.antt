@@ -1,13 +1,13 @@
--- The steps of carry, spread and gather on values: one number more, one row more in its place, one row more at the front of a buffer.
--- The place of a row among numbers is a product; it is kept as a running position.
+-- The steps of spread and gather on values: one row more in its place, one row more at the front of a buffer.
 use Prim.Native.Nat.{ℕ, ◌+◌, ◌*◌, ◌≤◌, ◌<◌}
 use native.Mathlib.Omega.{arith}
+use borrow.Rule.Slice.PartMut.{put_mid}
 use native.Mathlib.Numerals.{add-one}
-use native.Mathlib.Nat.{mul-le-mul}
 use mathlib.Core.Path.{◌≡◌, refl, sym, ap, ◌∙◌}
 use mathlib.Core.List.{List, [], ◌∷◌, ◌++◌, map, map-append, append-nil}
-use lib.ListN.{length, get_or, take, drop, set, length-append, length-drop, length-map}
-use lib.Seq.{get_or-drop, take-suc, take-take, drop-drop, take_at, drop_at, length-take-le, paste, paste-suc}
+use lib.ListN.{length, get_or, take, drop, length-append, length-drop, length-map}
+use lib.Seq.{take-suc, take-take, drop-drop, take_at, drop_at, length-take-le, paste}
+use Rattle.std.proofs.lemmas.Slice.{put_mid-paste}
 use Rattle.calculus.proofs.Theory.Sets.Laws.{union-append}
 use Rattle.calculus.specs.Rows.{Row, numbers}
 use Rattle.answer.specs.Code.Listing.{cut}
@@ -19,18 +19,13 @@ use Rattle.standing.specs.Change.{fronted}
 
 -- ---- numbers from one list to another
 
--- One number more.
-pub carried-next : (from before out : List ℕ) (start at c : ℕ) → start + c < length from → at + c < length before → out ≡ paste before at (drop start from) c → set out (at + c) (get_or from (start + c) 0) ≡ paste before at (drop start from) (c + 1)
-carried-next from before out start at c h l e =
-    (λ j. set (e j) (at + c) (sym (get_or-drop start from c 0) j))
-    ∙ paste-suc before at (drop start from) c 0 l (omega (arith, length-drop start from))
-    ∙ ap (paste before at (drop start from)) (sym (add-one c))
+-- A part of a list copied over k places of another.
+pub copied : (before from part : List ℕ) (at start k m n : ℕ) → part ≡ take m (drop start from) → m ≡ k → n ≡ k → start + k ≤ length from → put_mid at n before part ≡ paste before at (drop start from) k
+copied before from part at start k m n e f g l =
+    put_mid-paste at n before part (take k (drop start from)) k (e ∙ ap (λ j. take j (drop start from)) f) (sym g) (sym (length-take-le k (drop start from) (omega (arith, length-drop start from))))
+    ∙ ap (λ xs. take at before ++ xs ++ drop (at + k) before) (take-take k k (drop start from) (omega arith))
 
 -- ---- rows of k numbers
-
--- A row from a running position on ends within the places of a list.
-pub position-small : (k i n at : ℕ) → k ≤ 4 → n ≤ max_rows → i < n → at ≡ i * k → at + k ≤ 4 * max_rows
-position-small k i n at few h l e = position-within k i n at (4 * max_rows) l e (mul-le-mul h few)
 
 -- One row more in its place.
 pub spread-next : (k i n at : ℕ) (given values : List ℕ) → k ≤ 4 → n ≤ max_rows → n * k ≤ length given → i < n → at ≡ i * k → values ≡ (stored (cut k i given)).values → paste values (4 * i) (drop at given) k ≡ (stored (cut k (i + 1) given)).values

@@ -1,7 +1,7 @@
 pub mod Theory
 pub mod Carrying
+pub mod Comparing
 pub mod Walking
-pub mod Judging
-pub mod Opening
+pub mod Reading
 pub mod Maintaining
 pub mod Changing

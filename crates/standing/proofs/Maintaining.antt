@@ -16,29 +16,27 @@ use Rattle.calculus.specs.Lists.{padded}
 use Rattle.calculus.specs.Order.{Ascending}
 use Rattle.calculus.specs.Generators.{columns}
 use Rattle.calculus.specs.Rows.{Row, row_below, Result, endless, listed, only_in, numbers, Width}
-use Rattle.causes.specs.declared.Answer.{Answer}
-use Rattle.causes.specs.declared.Answer.TheVariants.{Done, Refused}
-use Rattle.causes.specs.Causes.{check, first_cause, when, is_done}
+use Rattle.causes.specs.Causes.{Answer, Done, Refused, check, first_cause, when, is_done}
 use Rattle.tables.specs.declared.Store.{Store}
 use Rattle.query.specs.declared.Query.{Query}
 use Rattle.query.specs.declared.Columns.{Columns}
 use Rattle.query.specs.Reading.{formula}
-use Rattle.answer.specs.declared.Found.{Found}
+use Rattle.std.specs.Prelude.{Some}
+use Rattle.answer.specs.declared.Found.{Found as Told}
+use Rattle.answer.specs.Reply.{Found, result_of, exceeds, found_reply}
 use Rattle.answer.specs.Code.Listing.{cut}
 use Rattle.answer.proofs.Theory.Code.Listing.Cut.{length_cut, cut-numbers}
-use Rattle.answer.specs.Reply.{result_of, exceeds, found_reply}
 use Rattle.answer.specs.Code.Reply.{Answerable, evaluated}
 use Rattle.standing.specs.declared.Rows.{Rows}
 use Rattle.standing.specs.declared.View.{View}
-use Rattle.standing.specs.declared.Change.{Change}
+use Rattle.standing.specs.Change.{Change, joining, leaving, fronted, refusal, turn_reply}
 use Rattle.standing.specs.View.{max_rows, held_rows, stored, rows_in, kept, mark}
 use Rattle.standing.specs.Code.View.{rows_with, InOrder}
 use Rattle.standing.proofs.Theory.View.Laws.{stored-none, held-rows-stored, rows_stored, stored-padded}
 use Rattle.standing.proofs.Theory.View.Difference.{padded-ascending, only-in-padded, only_in-width, only_in-fewer}
 use Rattle.standing.proofs.Theory.View.Layout.{Layout, suited}
 use Rattle.standing.specs.Checks.{is_over, report_checks}
-use Rattle.standing.specs.Change.{joining, leaving, fronted, refusal, turn_reply}
-use Rattle.standing.specs.Code.Change.{Current, told, current, Suits, maintained}
+use Rattle.standing.specs.Code.Change.{Current, kept_of, told, current, Suits, maintained}
 use Rattle.standing.proofs.Theory.Change.Turn.{result-wide, result-ascends, report-done, too_many, all_kept, current-over, current-kept, over-is, maintained-by}
 
 -- ---- at most `max_rows` rows of at most four columns
@@ -75,7 +73,7 @@ outcome k few buffer room (listed rows) wide = go (reflects-ltb (length buffer) 
     go (fails n) = inr (refl, (refl, refl, cut-numbers k rows (drop (length (numbers rows)) buffer) wide))
 
 -- Where they are too many, the places are left zero.
-pub places-left : {values : List ℕ} → values ≡ replicate (4 * max_rows) 0 → told (record { over = true; endless = false; count = 0 }) values ≡ too_many
+pub places-left : {values : List ℕ} → values ≡ replicate (4 * max_rows) 0 → ◌≡◌ {A = Current} (record { over = true; endless = false; rows = rows_with values 0 }) too_many
 places-left e = ap (λ vs. record { over = true; endless = false; rows = rows_with vs 0 }) (e ∙ sym stored-none)
 
 -- An accepted query has at most four columns.
@@ -122,7 +120,7 @@ module _ {s : Store} {q : Query} {cs : Columns} (h : Answerable s q cs) (f : Fou
         ∙ ap (λ c. record { over = false; endless = f.endless; rows = stored (cut c.count f.rows after) }) (sym h.columns_are)
 
     -- and are spread over the places.
-    pub find-kept : {values : List ℕ} → f.rows ≤ max_rows → values ≡ (stored (cut cs.count f.rows after)).values → told (record { over = false; endless = f.endless; count = f.rows }) values ≡ current found
+    pub find-kept : {values : List ℕ} → f.rows ≤ max_rows → values ≡ (stored (cut cs.count f.rows after)).values → ◌≡◌ {A = Current} (record { over = false; endless = f.endless; rows = rows_with values f.rows }) (current found)
     find-kept l e =
         (λ i. record { over = false; endless = f.endless; rows = rows_with (e i) (sym (length_cut cs.count f.rows after) i) })
         ∙ sym (stands-in-buffer l)
@@ -155,6 +153,19 @@ pub record Renewed (t : Store) (v : View) (q : Query) (cs : Columns) (new : Curr
   pub opened : v.opening < 2 ^ 64
   pub new_is : new ≡ current (result_of t q)
   pub not_over : new.over ≡ false
+
+-- They were, where `find` told them: k is the mark and their number.
+pub renews : {t : Store} {q : Query} {cs : Columns} {k : Bool × ℕ} {values : List ℕ} (v : View) (f : Told) → Answerable t q cs → Suits v q → length v.columns.variables ≡ 4 → v.opening < 2 ^ 64
+    → k ≡ kept_of f → told (Some f) values ≡ current (result_of t q) → Renewed t v q cs (record { over = false; endless = k.0; rows = rows_with values k.1 })
+renews {values} v f a s p o e n =
+    record {
+      answerable = a;
+      suiting = s;
+      places = p;
+      opened = o;
+      new_is = (λ i. record { over = false; endless = (e i).0; rows = rows_with values (e i).1 }) ∙ n;
+      not_over = refl;
+    }
 
 module _ {t : Store} {v : View} {q : Query} {cs : Columns} {new : Current} (r : Renewed t v q cs new) where
   abbrev answered : Result

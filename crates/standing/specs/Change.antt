@@ -1,21 +1,32 @@
 -- The replies of opening, put and removal: document 01, "Rows, endless and listed", and the causes that each meets. Definitions only; the laws are in
 -- Change/Laws.antt.
-use Rattle.std.specs.Prelude.{ℕ, ◌+◌, List, [], ◌∷◌, ◌++◌, length, drop}
+use Rattle.std.specs.Prelude.{ℕ, ◌+◌, List, [], ◌∷◌, ◌++◌, length, drop, Result as Returned, Ok, Err}
 use Rattle.calculus.specs.Generators.{columns}
 use Rattle.calculus.specs.Rows.{Row, Result, listed, only_in, numbers}
-use Rattle.causes.specs.declared.Answer.{Answer}
-use Rattle.causes.specs.declared.Answer.TheVariants.{Done, Refused}
-use Rattle.causes.specs.Causes.{Check, check, first_cause, when}
+use Rattle.causes.specs.Causes.{Answer, Done, Refused, Check, check, first_cause, when, number_of, place_of}
 use Rattle.tables.specs.declared.Store.{Store}
 use Rattle.tables.specs.Store.{held, store_of, store_checks}
 use Rattle.query.specs.declared.Query.{Query}
 use Rattle.query.specs.Reading.{formula, read_checks}
 use Rattle.answer.specs.Reply.{result_of, query_read}
 use Rattle.standing.specs.declared.View.{View}
-use Rattle.standing.specs.declared.Opened.{Opened}
-use Rattle.standing.specs.declared.Change.{Change}
 use Rattle.standing.specs.View.{rows_in, kept, view_of}
 use Rattle.standing.specs.Checks.{Action, view_checks, record_checks, records_after, is_over, report_checks}
+use Rattle.causes.specs.declared.Refusal.{Refusal}
+use Rattle.standing.specs.declared.Change.{Change as Changed}
+
+-- What an opening answers, and the list.
+pub record Opened : Type 0 where
+  pub answer : Answer
+  pub view : View
+
+-- What a put or removal answers: the numbers of rows that joined and left, and the store and list after it.
+pub record Change : Type 0 where
+  pub answer : Answer
+  pub joined : ℕ
+  pub left : ℕ
+  pub store : Store
+  pub view : View
 
 -- ---- opening
 
@@ -30,6 +41,11 @@ over_checks found = check 17 (when (is_over (length (kept found)))) ∷ []
 -- A refusal hands back a list without columns and rows.
 abbrev pub refused_opening : ℕ → ℕ → Opened
 refused_opening n p = record { answer = Refused n p; view = view_of [] (listed []) 0 0 0 }
+
+-- What an opening comes to by what it hands back.
+abbrev pub opened_in : Returned View Refusal → Opened
+opened_in (Ok v) = record { answer = Done; view = v }
+opened_in (Err r) = refused_opening (number_of r) (place_of r)
 
 abbrev pub opening_reply : Answer → List ℕ → Result → Opened
 opening_reply Done cols found = record { answer = Done; view = view_of cols found (length (kept found)) 0 0 }
@@ -66,6 +82,11 @@ fronted rows buffer = numbers rows ++ drop (length (numbers rows)) buffer
 -- A refusal leaves the store and the list.
 abbrev pub refusal : ℕ → ℕ → Store → View → Change
 refusal n p s v = record { answer = Refused n p; joined = 0; left = 0; store = s; view = v }
+
+-- What a change of the store s and its list v comes to by what it hands back (here `Changed`); a refusal hands back neither, and both are as they were.
+abbrev pub change_in : Store → View → Returned Changed Refusal → Change
+change_in s v (Ok c) = record { answer = Done; joined = c.joined; left = c.left; store = c.store; view = c.view }
+change_in s v (Err r) = refusal (number_of r) (place_of r) s v
 
 -- The reply to a change: the store is t, and the list holds what is found, with its counts added to. A refusal leaves the store, the list and both buffers.
 abbrev pub turn_reply : Answer → Store → Store → View → List ℕ → Result → List ℕ → List ℕ → Change × (List ℕ × List ℕ)

@@ -4,18 +4,16 @@ use Rattle.std.proofs.Math.Option.{some}
 use Rattle.calculus.specs.Sets.{In}
 use Rattle.calculus.specs.Generators.{columns}
 use Rattle.calculus.specs.Rows.{numbers}
-use Rattle.causes.specs.declared.Answer.TheVariants.{Done}
-use Rattle.causes.specs.Causes.{number, place, is_done}
+use Rattle.causes.specs.Causes.{Done, number, place, is_done}
 use Rattle.tables.specs.declared.Store.{Store}
 use Rattle.tables.specs.Store.{held}
 use Rattle.query.specs.declared.Query.{Query}
 use Rattle.query.specs.Reading.{formula, columns_of}
 use Rattle.answer.specs.Reply.{query_read}
 use Rattle.standing.specs.declared.View.{View}
-use Rattle.standing.specs.declared.Change.{Change}
+use Rattle.standing.specs.Change.{Change, opened_of, change_of}
 use Rattle.standing.specs.Families.{Family, with_list, Paired}
 use Rattle.standing.specs.View.{rows_in, stored}
-use Rattle.standing.specs.Change.{opened_of, change_of}
 use Rattle.standing.specs.Ledger.{Account, Ledger, Call, Step, opening, call, Report}
 
 -- ---- runs

@@ -1,97 +1,65 @@
 // The layout of a list: cause 12.
 ghost use Rattle.std.specs.Prelude.{◌≡◌, ◌+◌, ◌≤◌, take, drop, eqb};
-ghost use Rattle.calculus.specs.Reflects.{Reflects};
 ghost use Rattle.calculus.specs.Sets.{all_of};
 ghost use Rattle.calculus.specs.Order.{is-ascending};
 ghost use Rattle.calculus.specs.Rows.{row_below};
 ghost use Rattle.query.specs.Reading.{variables_in};
-ghost use Rattle.standing.specs.View.{max_rows, row_places, ends, suits, QueryColumns};
+ghost use Rattle.standing.specs.View.{max_rows, row_places, held_rows, ends, suits, QueryColumns};
+ghost use Rattle.standing.specs.Code.View.{places_fit, tests_of};
 
-use crate::{NUMBERS, ROWS, View, row};
+use crate::{NUMBERS, ROWS, Rows, View, row};
 use query::Columns;
 
-// Whether each of the first count rows is zero past its first k values.
-fn all_end(values: &[u32; NUMBERS], count: usize, k: usize) -> bool
-    requires { count ≤ max_rows }
-    ensures { result ≡ all_of (ends k) (take count (row_places values.now)) }
+// Whether each of the rows from one place to before another is zero past its first k values.
+fn all_end(values: &[u32; NUMBERS], from: usize, to: usize, k: usize) -> bool
+    requires { to ≤ max_rows }
+    ensures { result ≡ all_of (ends k) (drop from (take to (row_places values.now))) }
 {
-    let mut i = 0;
-    while i < count {
+    for i in from..to {
         if !row::ends(row::read(values, i), k) {
             return false;
         }
-        i += 1;
     }
     true
 }
 
-// Whether every place from the count on is zero.
-fn rest_zero(values: &[u32; NUMBERS], count: usize) -> bool
-    requires { count ≤ max_rows }
-    ensures { result ≡ all_of (ends 0) (drop count (row_places values.now)) }
+// Whether the rows are strictly ascending, in their four places.
+fn all_ascend(rows: &Rows) -> bool
+    requires { rows.now.count ≤ max_rows }
+    ensures { result ≡ is-ascending row_below (held_rows rows.now) }
 {
-    let mut i = count;
-    while i < ROWS {
-        if !row::ends(row::read(values, i), 0) {
+    for i in 1..rows.count {
+        if row::read(&rows.values, i) <= row::read(&rows.values, i - 1) {
             return false;
         }
-        i += 1;
     }
     true
-}
-
-// Whether the first count rows are strictly ascending, in their four places.
-fn all_ascend(values: &[u32; NUMBERS], count: usize) -> bool
-    requires { count ≤ max_rows }
-    ensures { result ≡ is-ascending row_below (take count (row_places values.now)) }
-{
-    let mut i = 1;
-    while i < count {
-        if !row::below(row::read(values, i - 1), row::read(values, i)) {
-            return false;
-        }
-        i += 1;
-    }
-    true
-}
-
-// Whether two lists of columns are the same, unused places included.
-fn agree(a: Columns, b: Columns) -> bool
-    ensures { Reflects (a ≡ b) result }
-{
-    if a.count != b.count {
-        return false;
-    }
-    let xs = a.variables;
-    let ys = b.variables;
-    if xs[0] != ys[0] {
-        return false;
-    }
-    if xs[1] != ys[1] {
-        return false;
-    }
-    if xs[2] != ys[2] {
-        return false;
-    }
-    xs[3] == ys[3]
 }
 
 // Whether rows at opening plus joined are left plus rows held, as whole numbers.
-fn add_up(opening: u64, joined: u64, left: u64, held: u64) -> bool
-    ensures { result ≡ eqb (opening + joined) (left + held) }
+fn add_up(view: &View) -> bool
+    ensures { result ≡ eqb (view.now.opening + view.now.joined) (view.now.left + view.now.rows.count) }
 {
-    if left <= opening {
-        let more = opening - left;
-        if held < more {
-            return false;
-        }
-        return joined == held - more;
-    }
-    let fewer = left - opening;
-    if joined < fewer {
-        return false;
-    }
-    joined - fewer == held
+    u128::from(view.opening) + u128::from(view.joined)
+        == u128::from(view.left) + view.rows.count as u128
+}
+
+// Whether at most `ROWS` rows are in the layout for k columns: zero past their values, ascending, and zeros in every place past them.
+fn in_places(rows: &Rows, k: usize) -> bool
+    requires { rows.now.count ≤ max_rows }
+    ensures { result ≡ places_fit rows.now k }
+{
+    all_end(&rows.values, 0, rows.count, k)
+        && all_ascend(rows)
+        && all_end(&rows.values, rows.count, ROWS, 0)
+}
+
+// Whether a list with k columns and at most `ROWS` rows is in the layout: its rows, none of them under the endless mark, and counts that add up.
+fn in_order(view: &View, k: usize) -> bool
+    requires { view.now.rows.count ≤ max_rows }
+    ensures { result ≡ tests_of view.now k }
+{
+    in_places(&view.rows, k) && !(view.endless && 0 < view.rows.count) && add_up(view)
 }
 
 // Whether a list is in the layout, with these columns, which are those of an accepted query.
@@ -99,27 +67,8 @@ pub fn suits(view: View, columns: Columns) -> bool
     requires { QueryColumns columns }
     ensures { result ≡ suits view (variables_in columns) }
 {
-    let own = view.columns;
-    if !agree(own, columns) {
+    if view.columns != columns || ROWS < view.rows.count {
         return false;
     }
-    let rows = view.rows;
-    let values = rows.values;
-    let count = rows.count;
-    if ROWS < count {
-        return false;
-    }
-    if !all_end(&values, count, columns.count) {
-        return false;
-    }
-    if !all_ascend(&values, count) {
-        return false;
-    }
-    if !rest_zero(&values, count) {
-        return false;
-    }
-    if view.endless && 0 < count {
-        return false;
-    }
-    add_up(view.opening, view.joined, view.left, count as u64)
+    in_order(&view, columns.count)
 }

@@ -1,8 +1,8 @@
 -- What one read more puts into a space is what it takes from a reader's bytes.
-use Rattle.std.proofs.Common.{◌≡◌, ℕ, ◌+◌, ◌≤◌, List, Option, ◌++◌, length, take, drop, sym, ap, subst, ◌∙◌, take-take, take-append-drop, drop_at, length-take-le}
-use Rattle.std.proofs.lemmas.List.{drop-take, take-append-le}
+use Rattle.std.proofs.Common.{◌≡◌, ℕ, ◌+◌, ◌≤◌, List, Option, Some, None, arith, ◌++◌, length, take, drop, sym, ap, subst, ◌∙◌, take-take, take-append-drop, drop_at, length-take-le}
+use Rattle.std.proofs.lemmas.List.{drop-take, take-append-le, take_at}
 use Rattle.std.proofs.KnownBytes.{Consumes-trans}
-use Rattle.std.specs.Io.KnownBytes.{Consumes}
+use Rattle.std.specs.Io.KnownBytes.{Consumes, Keeps}
 use borrow.Rule.Slice.PartMut.{put_mid}
 
 -- a read's bytes stand after the front that was there
@@ -15,3 +15,23 @@ pub joined : (a b c : Option (List ℕ)) (mid new : List ℕ) (from n : ℕ) →
 joined a b c mid new from n grown same first second =
     let front = take-take from n new grown ∙ same in
     subst (Consumes a c) (ap (λ l. l ++ drop from (take n new)) (sym front) ∙ take-append-drop from (take n new)) (Consumes-trans a b c _ _ first second)
+
+module _ (a b c : Option (List ℕ)) (mid new : List ℕ) (from k : ℕ) (fits : from ≤ length mid) (first : Consumes a b (take from mid)) where
+  -- the front of a space after a read past it
+  front : take from (put_mid from k mid new) ≡ take from mid
+  front = take_at (take from mid) _ from (length-take-le from mid fits)
+
+  -- m bytes more were read into the space past its front
+  pub more-read : (m : ℕ) → m ≤ length new → Consumes b c (take m new) → Consumes a c (take (from + m) (put_mid from k mid new))
+  more-read m h second =
+      joined a b c mid (put_mid from k mid new) from (from + m) (omega arith) front first (subst (Consumes b c) (sym (placed from m k mid new fits h)) second)
+
+  -- a read brought nothing
+  pub none-read : Keeps b c → Consumes a c (take from (put_mid from k mid new))
+  none-read same = subst (Consumes a c) (sym front) (kept a b c (take from mid) first same)
+    where
+      kept : (a b c : Option (List ℕ)) (bs : List ℕ) → Consumes a b bs → Keeps b c → Consumes a c bs
+      kept None b c bs h e = record {}
+      kept (Some xs) None c bs h e = absurd h
+      kept (Some xs) (Some ys) None bs h e = absurd e
+      kept (Some xs) (Some ys) (Some zs) bs h e = h ∙ ap (λ l. bs ++ l) (sym e)

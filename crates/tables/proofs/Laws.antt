@@ -1,80 +1,38 @@
 -- Laws of values that the proofs hand their facts to: the tests as the code makes them, what the records from place i on decide, the loops of raise
 -- and lower, and the answers of each way out.
-use Prim.Native.Nat.{ℕ, zero, suc, ◌+◌, ◌-◌, ◌<◌, ◌≤◌}
+use Prim.Native.Nat.{ℕ, zero, suc, ◌+◌, ◌<◌, ◌≤◌}
 use native.Mathlib.Omega.{arith}
 use native.Mathlib.Numerals.{add-one}
-use mathlib.Core.Path.{◌≡◌, refl, sym, ap, subst⁻¹, ◌∙◌}
+use mathlib.Core.Path.{◌≡◌, refl, sym, ap, ◌∙◌}
 use mathlib.Core.Logic.{◌≢◌}
 use mathlib.Core.Bool.{Bool, true, false, not, ◌&&◌, cond, and-false}
 use mathlib.Core.List.{List, [], ◌∷◌, ◌++◌}
+use Rattle.std.proofs.Common.{Result, Ok, Err}
 use lib.ListN.{length, get_or, set, take, drop, drop_of_length-le, length-set}
 use lib.Seq.{drop-cons}
 use lib.Dec.{eqb, ltb}
-use borrow.Author.Tests.{lt-ltb, le-ltb, le-leb, lt-leb, eq-eqb, ne_eqb, eqb-true, eqb-false, not-true, not-false}
-use Rattle.calculus.specs.Sets.{all_of, same_list}
-use Rattle.calculus.specs.Order.{lexicographic}
-use Rattle.calculus.proofs.Theory.Order.Laws.{below-differ, same-differ, below-agree, same-agree, below-at-first, same-at-first, below-at-second, same-at-second, below-at-third, same-at-third, below-at-fourth, same-at-fourth}
+use borrow.Author.Tests.{lt-ltb, le-ltb, le-leb, eq-eqb, ne_eqb, eqb-true, eqb-false, not-true, not-false}
+use Rattle.calculus.specs.Sets.{all_of}
+use Rattle.calculus.proofs.Theory.Order.Laws.{below-differ}
 use Rattle.calculus.proofs.Theory.Reflects.Laws.{reflects-true, reflects-T}
-use Rattle.causes.specs.declared.Answer.{Answer}
-use Rattle.causes.specs.declared.Answer.TheVariants.{Done, Refused}
-use Rattle.causes.specs.Causes.{widths_fit}
+use Rattle.causes.specs.Causes.{Done, Refused, widths_fit}
 use Rattle.tables.specs.declared.Record.{Record}
 use Rattle.tables.specs.declared.Store.{Store}
-use Rattle.tables.specs.declared.Spot.{Spot}
-use Rattle.tables.specs.declared.Changed.{Changed}
+use Rattle.tables.specs.Change.{Changed, rank}
 use Rattle.tables.specs.Records.{record_below, same_record, width, fits, values_of, is_blank, blank}
-use Rattle.tables.specs.Store.{capacity, places, places_of, record_at, held, unused, has_room, have_room, judgement, of_places, store_of, no_store}
+use Rattle.tables.specs.Store.{capacity, places, record_at, held, unused, has_room, have_room, judgement, of_places}
 use Rattle.tables.specs.Code.Store.{set_values}
 use Rattle.tables.specs.Code.Layout.{orderly}
 use Rattle.tables.proofs.Theory.Store.Room.{few-room}
 use Rattle.tables.proofs.Theory.Store.Laws.{length-places, length-held}
-use Rattle.tables.proofs.Theory.Store.Places.{length_set_values, places-set, insert-at, remove-at, insert-at-next, insert-at-end, insert-at-split, remove-at-next, remove-at-end, remove-at-split, store-placed}
-use Rattle.tables.specs.Code.Change.{located, found, raised, lowered, insertion, deletion}
-use Rattle.tables.specs.Change.{rank}
-use Rattle.tables.specs.Code.Fill.{beginning, merged, collected_into, collected}
+use Rattle.calculus.proofs.Theory.Lists.Laws.{tested}
+use Rattle.tables.proofs.Theory.Store.Places.{getD-first, length_set_values, places-set, insert-at, remove-at, insert-at-next, insert-at-end, insert-at-split, remove-at-next, remove-at-end, remove-at-split, store-placed}
+use Rattle.tables.specs.Code.Change.{located, found, raised, lowered, insertion}
 
--- ---- the order of records, and their sameness, from the front
+-- ---- the order of records, from the front
 
-module _ (a b : Record) where
-  pub below-relation : a.relation ≢ b.relation → ltb a.relation b.relation ≡ record_below a b
-  below-relation n = below-differ a.relation b.relation (values_of a) (values_of b) n
-
-  pub same_relation : a.relation ≢ b.relation → false ≡ same_record a b
-  same_relation n = same-differ a.relation b.relation (values_of a) (values_of b) n
-
-  -- Where the relations are the same, the four values decide.
-  module _ (e : a.relation ≡ b.relation) where
-    below-values : lexicographic (values_of a) (values_of b) ≡ record_below a b
-    below-values = below-agree a.relation b.relation (values_of a) (values_of b) e
-
-    same-values : same_list (values_of a) (values_of b) ≡ same_record a b
-    same-values = same-agree a.relation b.relation (values_of a) (values_of b) e
-
-    pub below-first : a.first ≢ b.first → ltb a.first b.first ≡ record_below a b
-    below-first n = below-at-first a.first a.second a.third a.fourth b.first b.second b.third b.fourth n ∙ below-values
-
-    pub same_first : a.first ≢ b.first → false ≡ same_record a b
-    same_first n = same-at-first a.first a.second a.third a.fourth b.first b.second b.third b.fourth n ∙ same-values
-
-    module _ (f : a.first ≡ b.first) where
-      pub below-second : a.second ≢ b.second → ltb a.second b.second ≡ record_below a b
-      below-second n = below-at-second a.first a.second a.third a.fourth b.first b.second b.third b.fourth f n ∙ below-values
-
-      pub same_second : a.second ≢ b.second → false ≡ same_record a b
-      same_second n = same-at-second a.first a.second a.third a.fourth b.first b.second b.third b.fourth f n ∙ same-values
-
-      module _ (g : a.second ≡ b.second) where
-        pub below-third : a.third ≢ b.third → ltb a.third b.third ≡ record_below a b
-        below-third n = below-at-third a.first a.second a.third a.fourth b.first b.second b.third b.fourth f g n ∙ below-values
-
-        pub same-third : a.third ≢ b.third → false ≡ same_record a b
-        same-third n = same-at-third a.first a.second a.third a.fourth b.first b.second b.third b.fourth f g n ∙ same-values
-
-        pub below-fourth : a.third ≡ b.third → ltb a.fourth b.fourth ≡ record_below a b
-        below-fourth h = below-at-fourth a.first a.second a.third a.fourth b.first b.second b.third b.fourth f g h ∙ below-values
-
-        pub same-fourth : a.third ≡ b.third → eqb a.fourth b.fourth ≡ same_record a b
-        same-fourth h = same-at-fourth a.first a.second a.third a.fourth b.first b.second b.third b.fourth f g h ∙ same-values
+pub below-relation : (a b : Record) → a.relation ≢ b.relation → ltb a.relation b.relation ≡ record_below a b
+below-relation a b n = below-differ a.relation b.relation (values_of a) (values_of b) n
 
 -- ---- a record that fits, as the code tests it
 
@@ -215,100 +173,46 @@ raise-end rs vs i carried before k r h e = sym (insert-at-end (places rs vs) car
 
 -- ---- the answers, from what the tests say
 
-module _ (s : Store) (w : widths_fit s.widths ≡ true) where
-  pub judged-many : capacity < s.count → Refused 2 0 ≡ judgement s
-  judged-many h = rw (w, lt-leb s.count capacity h)
+-- The records of a count in range have room.
+pub judged-done : (s : Store) → widths_fit s.widths ≡ true → s.count ≤ capacity → orderly s.widths (held s) ≡ true → all_of is_blank (unused s) ≡ true → Done ≡ judgement s
+judged-done s w h e f = rw (w, le-leb s.count capacity h, room, e, f)
+  where
+    room : have_room (held s) ≡ true
+    room = reflects-true (reflects-T (have_room (held s))) (few-room (held s) (omega (arith, length-held s h)))
 
-  module _ (h : s.count ≤ capacity) where
-    -- The records of a count in range have room.
-    counted-room : have_room (held s) ≡ true
-    counted-room = reflects-true (reflects-T (have_room (held s))) (few-room (held s) (omega (arith, length-held s h)))
+-- Where a record is found, by its place.
+module _ (s : Store) (r : Record) {k : ℕ} (e : k ≡ rank r (held s)) where
+  pub located-found : found r (held s) ≡ true → Ok k ≡ located s r
+  located-found f = rw (f, e)
 
-    pub judged-disordered : orderly s.widths (held s) ≡ false → Refused 2 0 ≡ judgement s
-    judged-disordered e = rw (w, le-leb s.count capacity h, counted-room, e)
+  pub located-none : found r (held s) ≡ false → Err k ≡ located s r
+  located-none f = rw (f, e)
 
-    pub judged-full : orderly s.widths (held s) ≡ true → all_of is_blank (unused s) ≡ false → Refused 2 0 ≡ judgement s
-    judged-full e f = rw (w, le-leb s.count capacity h, counted-room, e, f)
+told-ok : (b : Bool) (k m : ℕ) → ◌≡◌ {A = Result ℕ ℕ} (Ok k) (cond b (Ok m) (Err m)) → (b ≡ true) × (k ≡ m)
+told-ok true k m e = (refl, cc)
+told-ok false k m e = absurd (cc)
 
-    pub judged-done : orderly s.widths (held s) ≡ true → all_of is_blank (unused s) ≡ true → Done ≡ judgement s
-    judged-done e f = rw (w, le-leb s.count capacity h, counted-room, e, f)
+told-err : (b : Bool) (k m : ℕ) → ◌≡◌ {A = Result ℕ ℕ} (Err k) (cond b (Ok m) (Err m)) → (b ≡ false) × (k ≡ m)
+told-err true k m e = absurd (cc)
+told-err false k m e = (refl, cc)
 
--- An answer and a store.
-abbrev changed : Answer → Store → Changed
-changed a s = record { answer = a; store = s }
+module _ (s : Store) (r : Record) (k : ℕ) where
+  pub ok-found : Ok k ≡ located s r → (found r (held s) ≡ true) × (k ≡ rank r (held s))
+  ok-found = told-ok (found r (held s)) k (rank r (held s))
 
--- The parts of what was located.
-module _ (s : Store) (r : Record) {p : Spot} (e : p ≡ located s r) where
-  pub spot-fits : fits s.widths r ≡ p.fits
-  spot-fits = sym (ap (λ (q : Spot). q.fits) e)
+  pub err-found : Err k ≡ located s r → (found r (held s) ≡ false) × (k ≡ rank r (held s))
+  err-found = told-err (found r (held s)) k (rank r (held s))
 
-  pub spot-place : rank r (held s) ≡ p.place
-  spot-place = sym (ap (λ (q : Spot). q.place) e)
+-- Whether it is found there, by the record read at its place.
+pub found-told : (s : Store) (r x : Record) (k : ℕ) {b : Bool} → s.count ≤ capacity → k ≡ rank r (held s) → k < s.count → b ≡ same_record x r → x ≡ record_at s.relations s.values k → found r (held s) ≡ b
+found-told s r x k h e l t g =
+    let here = getD-first s.relations s.values s.count h k l in
+    sym (found-place r (held s) k e (omega (arith, length-held s h))) ∙ tested (λ (p : Record). same_record p r) t (g ∙ sym here)
 
-  pub spot-held : found r (held s) ≡ p.held
-  spot-held = sym (ap (λ (q : Spot). q.held) e)
+-- A store has no room for a record more, as the code tests it by the count.
+pub count-full : (s : Store) (r : Record) → s.count ≤ capacity → capacity ≤ s.count → has_room r (held s) ≡ false
+count-full s r c h = le-ltb (length (held s)) capacity (omega (arith, length-held s c))
 
--- Whether a record has room, as the code tests it by the count.
-module _ (s : Store) (r : Record) (c : s.count ≤ capacity) where
-  pub count-full : capacity ≤ s.count → has_room r (held s) ≡ false
-  count-full h = le-ltb (length (held s)) capacity (omega (arith, length-held s c))
-
-  pub count_room : s.count < capacity → has_room r (held s) ≡ true
-  count_room h = lt-ltb (length (held s)) capacity (omega (arith, length-held s c))
-
-module _ (s : Store) (r : Record) where
-  pub insertion-unfit : fits s.widths r ≡ false → changed (Refused 13 0) s ≡ insertion s r
-  insertion-unfit e = rw e
-
-  pub deletion-unfit : fits s.widths r ≡ false → changed (Refused 13 0) s ≡ deletion s r
-  deletion-unfit e = rw e
-
-  module _ (e : fits s.widths r ≡ true) where
-    pub insertion-held : found r (held s) ≡ true → changed (Refused 14 0) s ≡ insertion s r
-    insertion-held f = rw (e, f)
-
-    pub insertion-full : found r (held s) ≡ false → has_room r (held s) ≡ false → changed (Refused 15 0) s ≡ insertion s r
-    insertion-full f h = rw (e, f, h)
-
-    pub insertion-done : found r (held s) ≡ false → has_room r (held s) ≡ true → (k : ℕ) (t : Store) → k ≡ rank r (held s) → t ≡ of_places s.widths (raised (places_of s) k r) (s.count + 1) → changed Done t ≡ insertion s r
-    insertion-done f h k t g i = rw (e, f, h) (ap (changed Done) (i ∙ ap (λ (j : ℕ). of_places s.widths (raised (places_of s) j r) (s.count + 1)) g))
-
-    pub deletion-none : found r (held s) ≡ false → changed (Refused 16 0) s ≡ deletion s r
-    deletion-none f = rw (e, f)
-
-    pub deletion-done : found r (held s) ≡ true → (k : ℕ) (t : Store) → k ≡ rank r (held s) → t ≡ of_places s.widths (lowered (places_of s) k) (s.count - 1) → changed Done t ≡ deletion s r
-    deletion-done f k t g i = rw (e, f) (ap (changed Done) (i ∙ ap (λ (j : ℕ). of_places s.widths (lowered (places_of s) j) (s.count - 1)) g))
-
-module _ (ws : List ℕ) where
-  pub beginning-refused : widths_fit ws ≡ false → (s : Store) → s ≡ no_store → changed (Refused 1 0) s ≡ beginning ws
-  beginning-refused e s f = rw e (ap (changed (Refused 1 0)) f)
-
-  pub beginning-done : widths_fit ws ≡ true → changed Done (store_of ws []) ≡ beginning ws
-  beginning-done e = rw e
-
-module _ (f : Changed) (r : Record) where
-  -- A filling that is refused stays so.
-  pub collected-refused : (n p : ℕ) → f.answer ≡ Refused n p → f ≡ collected f r
-  collected-refused n p e = subst⁻¹ (λ (a : Answer). f ≡ collected_into f a r) e refl
-
-  module _ (e : f.answer ≡ Done) where
-    pub collected-over : capacity < f.store.count → (s : Store) → s ≡ no_store → changed (Refused 2 0) s ≡ collected f r
-    collected-over h s k = subst⁻¹ (λ (a : Answer). changed (Refused 2 0) s ≡ collected_into f a r) e (rw (lt-ltb capacity f.store.count h) (ap (changed (Refused 2 0)) k))
-
-    module _ (h : f.store.count ≤ capacity) (c : Changed) (i : c ≡ insertion f.store r) where
-      collected-merged : merged f c.answer c ≡ collected f r
-      collected-merged =
-          subst⁻¹
-          (λ (a : Answer). merged f c.answer c ≡ collected_into f a r)
-          e
-          (rw (le-ltb capacity f.store.count h) (ap (λ (d : Changed). merged f d.answer d) i))
-
-      pub collected-put : c.answer ≡ Done → c ≡ collected f r
-      collected-put d = sym (ap (λ (a : Answer). merged f a c) d) ∙ collected-merged
-
-      module _ (n p : ℕ) (d : c.answer ≡ Refused n p) where
-        pub collected-repeat : n ≡ 14 → f ≡ collected f r
-        collected-repeat g = sym (ap (λ (a : Answer). merged f a c) d ∙ rw (eq-eqb n 14 g)) ∙ collected-merged
-
-        pub collected-ended : (n ≡ 14 → ⊥) → (s : Store) → s ≡ no_store → changed (Refused n p) s ≡ collected f r
-        collected-ended g s k = ap (changed (Refused n p)) k ∙ sym (ap (λ (a : Answer). merged f a c) d ∙ rw (ne_eqb n 14 g)) ∙ collected-merged
+pub insertion-full : (s : Store) (r : Record) → fits s.widths r ≡ true → found r (held s) ≡ false → has_room r (held s) ≡ false
+    → ◌≡◌ {A = Changed} (record { answer = Refused 15 0; store = s }) (insertion s r)
+insertion-full s r e f h = rw (e, f, h)

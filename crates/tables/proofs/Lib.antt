@@ -1,3 +1,4 @@
 pub mod Theory
 pub mod Laws
 pub mod Runs
+pub mod Derived

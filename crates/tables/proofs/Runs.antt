@@ -7,7 +7,7 @@ use mathlib.Core.Bool.{Bool, true, false, true≢false, ◌&&◌, cond, and-true
 use mathlib.Core.List.{List, [], ◌∷◌}
 use lib.ListN.{length, get_or, drop}
 use lib.Dec.{eqb, leb, ltb}
-use borrow.Author.Tests.{lt-ltb, le-ltb, le-leb, lt-leb, eq-eqb, ne_eqb, eqb-true, ltb-true}
+use borrow.Author.Tests.{lt-ltb, le-ltb, le-leb, lt-leb, eq-eqb, ne_eqb, eqb-true}
 use Rattle.calculus.specs.Sets.{all_of}
 use Rattle.calculus.specs.Order.{is-ascending}
 use Rattle.tables.specs.declared.Record.{Record}
@@ -84,9 +84,6 @@ module _ (goes : ℕ → Bool) (start count : ℕ) where
   abbrev pub Running : ℕ → Type 0
   Running i = (start < i) × (i ≤ count) × ((k : ℕ) → start < k → k < i → goes k ≡ true)
 
-  pub run-starts : start < count → Running (start + 1)
-  run-starts h = (omega arith, omega arith, λ k a b. absurd (omega arith))
-
   module _ {i : ℕ} (t : Running i) where
     pub run-goes : i < count → goes i ≡ true → Running (i + 1)
     run-goes l e = (omega (arith, t.0), omega arith, λ k a b. go k a b (dec_lt k i))
@@ -97,9 +94,6 @@ module _ (goes : ℕ → Bool) (start count : ℕ) where
 
     pub run-stops : goes i ≡ false → RunTo goes start count i
     run-stops e = record { further = t.0; ends = t.1; runs = t.2; stops = λ l. e }
-
-    pub run_ends : count ≤ i → RunTo goes start count i
-    run_ends h = record { further = t.0; ends = t.1; runs = t.2; stops = λ l. absurd (omega arith) }
 
 -- ---- what the records at their places decide
 
@@ -136,12 +130,6 @@ fits-like ws l r f e =
     let p = (both (ltb l.relation 16 && ltb 0 (width ws l)) (all_of (eqb 0) (drop (width ws l) (values_of l))) f).0 in
     sym (ap (λ k. ltb k 16 && ltb 0 (get_or ws k 0) && all_of (eqb 0) (drop (get_or ws k 0) (values_of r))) e ∙ ap (λ b. b && all_of (eqb 0) (drop (width ws l) (values_of r))) p)
 
--- Of a record that fits, the relation is one of the sixteen, and its width isn't 0.
-pub fits-relation : (ws : List ℕ) (r : Record) → fits ws r ≡ true → (r.relation < 16) × (0 < width ws r)
-fits-relation ws r f =
-    let p = both (ltb r.relation 16) (ltb 0 (width ws r)) (both (ltb r.relation 16 && ltb 0 (width ws r)) (all_of (eqb 0) (drop (width ws r) (values_of r))) f).0 in
-    (ltb-true r.relation 16 p.0, ltb-true 0 (width ws r) p.1)
-
 -- ---- the runs
 
 -- What is known of the first n records where a run starts, at place i: the records before it fit and ascend. Where its relation is below `least`, it doesn't fit
@@ -151,14 +139,6 @@ pub record Entered (ws : List ℕ) (xs : List Record) (n : ℕ) (at : ℕ → Re
   pub rise : (k : ℕ) → 0 < k → k < i → record_below (at (k - 1)) (at k) ≡ true
   pub low : i < n → (at i).relation < least → orderly ws xs ≡ false
   pub high : 0 < i → i < n → least ≤ (at i).relation → record_below (at (i - 1)) (at i) ≡ true
-
-pub entered-start : (ws : List ℕ) (xs : List Record) (n : ℕ) (at : ℕ → Record) → Entered ws xs n at 0 0
-entered-start ws xs n at = record {
-  fit = λ k l. absurd (omega arith);
-  rise = λ k h l. absurd (omega arith);
-  low = λ h l. absurd (omega arith);
-  high = λ h l m. absurd (omega arith);
-}
 
 -- The first n records, told by `at`.
 module _ (ws : List ℕ) (xs : List Record) (n : ℕ) (at : ℕ → Record) (size : length xs ≡ n) (placed : (i : ℕ) → i < n → get_or xs i blank ≡ at i) where

@@ -1,15 +1,23 @@
 -- One record put or removed: document 01, causes 13 to 16. Definitions only; the laws are in Change/Laws.antt.
-use Rattle.std.specs.Prelude.{ℕ, zero, suc, Bool, not, cond, List, [], ◌∷◌}
+use Rattle.std.specs.Prelude.{ℕ, zero, suc, Bool, not, cond, List, [], ◌∷◌, Result, Ok, Err}
 use Rattle.calculus.specs.Sets.{any_of, select}
 use Rattle.calculus.specs.Order.{insert}
-use Rattle.causes.specs.declared.Answer.{Answer}
-use Rattle.causes.specs.declared.Answer.TheVariants.{Done, Refused}
-use Rattle.causes.specs.Causes.{check, first_cause, when, widths_fit}
+use Rattle.causes.specs.Causes.{Answer, Done, Refused, check, first_cause, when, widths_fit, refusal_of}
 use Rattle.tables.specs.declared.Record.{Record}
 use Rattle.tables.specs.declared.Store.{Store}
-use Rattle.tables.specs.declared.Changed.{Changed}
 use Rattle.tables.specs.Records.{record_below, same_record, fits}
 use Rattle.tables.specs.Store.{held, has_room, in_layout, store_of}
+use Rattle.causes.specs.declared.Refusal.{Refusal}
+
+-- What a call answers, and the store after it.
+pub record Changed : Type 0 where
+  pub answer : Answer
+  pub store : Store
+
+-- What a call on the store s comes to by what it hands back: the store after it, or a refusal, and the store is as it was.
+abbrev pub changed_of : Store → Result Store Refusal → Changed
+changed_of s (Ok t) = record { answer = Done; store = t }
+changed_of s (Err r) = record { answer = refusal_of r; store = s }
 
 -- Whether a record is among those held.
 abbrev pub is_held : Record → List Record → Bool

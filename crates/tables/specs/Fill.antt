@@ -2,14 +2,11 @@
 -- are in Fill/Laws.antt.
 use Rattle.std.specs.Prelude.{ℕ, not, ◌&&◌, List, [], ◌∷◌}
 use Rattle.calculus.specs.Order.{insert}
-use Rattle.causes.specs.declared.Answer.{Answer}
-use Rattle.causes.specs.declared.Answer.TheVariants.{Done, Refused}
-use Rattle.causes.specs.Causes.{Check, check, first_cause, when, widths_fit}
+use Rattle.causes.specs.Causes.{Answer, Done, Refused, Check, check, first_cause, when, widths_fit}
 use Rattle.tables.specs.declared.Record.{Record}
-use Rattle.tables.specs.declared.Changed.{Changed}
+use Rattle.tables.specs.Change.{Changed, is_held}
 use Rattle.tables.specs.Records.{record_below, fits}
 use Rattle.tables.specs.Store.{has_room, store_of, no_store}
-use Rattle.tables.specs.Change.{is_held}
 
 -- A refused filling hands back no store.
 abbrev pub refused_filling : ℕ → ℕ → Changed

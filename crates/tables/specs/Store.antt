@@ -4,8 +4,7 @@ use Rattle.calculus.specs.Sets.{all_of, union_of, In}
 use Rattle.calculus.specs.Lists.{tabulate, padded}
 use Rattle.calculus.specs.Order.{is-ascending, Ascending}
 use Rattle.calculus.specs.Satisfaction.{Database}
-use Rattle.causes.specs.declared.Answer.{Answer}
-use Rattle.causes.specs.Causes.{Check, check, first_cause, when, widths_fit}
+use Rattle.causes.specs.Causes.{Answer, Check, check, first_cause, when, widths_fit}
 use Rattle.tables.specs.declared.Record.{Record}
 use Rattle.tables.specs.declared.Store.{Store}
 use Rattle.tables.specs.Records.{values_of, blank, record_below, is_blank, fits, fact_of}

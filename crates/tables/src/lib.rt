@@ -7,18 +7,17 @@
 pub mod change;
 pub mod fill;
 pub mod layout;
-mod order;
 pub mod place;
 
-use causes::{Answer, RELATIONS};
+use causes::RELATIONS;
 
 // The record places of a store, and the values in them.
 pub const PLACES: usize = 256;
 
 pub const VALUES: usize = 4 * PLACES;
 
-// A relation and four values; those past the relation's width are zero.
-#[derive(Clone, Copy)]
+// A relation and four values; those past the relation's width are zero. Records are ordered by relation, then by values from the first.
+#[derive(Clone, Copy, Debug, PartialEq, Eq, PartialOrd, Ord)]
 pub struct Record {
     pub relation: u8,
     pub first: u32,
@@ -27,25 +26,20 @@ pub struct Record {
     pub fourth: u32,
 }
 
+// The record of an unused place.
+pub const BLANK: Record = Record {
+    relation: 0,
+    first: 0,
+    second: 0,
+    third: 0,
+    fourth: 0,
+};
+
+// Stays: document 01's form of a store, arrays of fixed size with a count beside them, passed and handed back by value.
 #[derive(Clone, Copy)]
 pub struct Store {
     pub widths: [u8; RELATIONS],
     pub relations: [u8; PLACES],
     pub values: [u32; VALUES],
     pub count: usize,
-}
-
-// Where a record stands in a store, or would stand: whether it fits the widths, its place, and whether it is held there.
-#[derive(Clone, Copy)]
-pub struct Spot {
-    pub fits: bool,
-    pub place: usize,
-    pub held: bool,
-}
-
-// What a change answers, and the store after it.
-#[derive(Clone, Copy)]
-pub struct Changed {
-    pub answer: Answer,
-    pub store: Store,
 }

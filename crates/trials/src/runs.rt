@@ -2,7 +2,9 @@
 // and the store and the list after it.
 ghost use Rattle.std.specs.Prelude.{◌<◌};
 
-use causes::Answer;
+use crate::parts::{byte, long, pair, quad, record_of, store_of};
+use crate::put;
+use causes::Refusal;
 use query::Columns;
 use standing::{Change, Rows, View};
 use std::io::Stdout;
@@ -11,24 +13,19 @@ use tables::{Record, Store};
 // The bytes of a call: its kind, a record, and the lengths of two buffers.
 const CALL: usize = 22;
 
-fn long(s: &[u8], i: usize) -> u64
-    requires { i < 900000 }
-{
-    let high = crate::quad(s, i) as u64;
-    let low = crate::quad(s, i + 4) as u64;
-    high * 4294967296 + low
+// The store and the list that the last call left.
+#[derive(Clone, Copy)]
+struct Held {
+    store: Store,
+    view: View,
 }
 
 fn rows_of(s: &[u8], from: usize, count: usize, given: usize) -> Rows
     requires { (from < 900000) × (given < 65536) }
 {
     let mut values = [0u32; standing::NUMBERS];
-    let mut i = 0;
-    while i < standing::NUMBERS {
-        if i < 4 * given {
-            values[i] = crate::quad(s, from + 4 * i);
-        }
-        i += 1;
+    for i in 0..standing::NUMBERS.min(4 * given) {
+        values[i] = quad(s, from + 4 * i);
     }
     Rows { values, count }
 }
@@ -38,25 +35,18 @@ fn view_of(s: &[u8], from: usize) -> View
     requires { from < 800000 }
 {
     let variables = [
-        crate::byte(s, from + 2),
-        crate::byte(s, from + 3),
-        crate::byte(s, from + 4),
-        crate::byte(s, from + 5),
+        byte(s, from + 2),
+        byte(s, from + 3),
+        byte(s, from + 4),
+        byte(s, from + 5),
     ];
-    let columns = Columns {
-        variables,
-        count: crate::pair(s, from),
-    };
-    let rows = rows_of(
-        s,
-        from + 35,
-        crate::pair(s, from + 6),
-        crate::pair(s, from + 8),
-    );
     View {
-        columns,
-        rows,
-        endless: crate::byte(s, from + 10) == 1,
+        columns: Columns {
+            variables,
+            count: pair(s, from),
+        },
+        rows: rows_of(s, from + 35, pair(s, from + 6), pair(s, from + 8)),
+        endless: byte(s, from + 10) == 1,
         opening: long(s, from + 11),
         joined: long(s, from + 19),
         left: long(s, from + 27),
@@ -64,161 +54,160 @@ fn view_of(s: &[u8], from: usize) -> View
 }
 
 fn list_columns(out: Stdout, c: Columns) {
-    let variables = crate::variables_of(c);
-    crate::put::bytes(out, b" columns");
-    crate::word(out, c.count as u64);
-    crate::list_numbers(out, &variables, 4, false);
+    put::bytes(out, b" columns");
+    put::word(out, c.count as u64);
+    put::numbers(out, &crate::variables_of(c), 4);
 }
 
 fn list_view(out: Stdout, v: View) {
-    let columns = v.columns;
-    let rows = v.rows;
-    let values = rows.values;
-    list_columns(out, columns);
+    list_columns(out, v.columns);
     if v.endless {
-        crate::put::bytes(out, b" endless");
+        put::bytes(out, b" endless");
     }
-    crate::put::bytes(out, b" rows");
-    crate::word(out, rows.count as u64);
-    crate::word(out, crate::sum_from(&values, 0));
-    crate::put::bytes(out, b" counts");
-    crate::word(out, v.opening);
-    crate::word(out, v.joined);
-    crate::word(out, v.left);
+    put::bytes(out, b" rows");
+    put::word(out, v.rows.count as u64);
+    put::word(out, crate::sum_from(&v.rows.values, 0));
+    put::bytes(out, b" counts");
+    put::word(out, v.opening);
+    put::word(out, v.joined);
+    put::word(out, v.left);
 }
 
-fn list_change(out: Stdout, c: Change) {
-    let answer = c.answer;
-    let store = c.store;
-    let view = c.view;
-    match answer {
-        Answer::Done => {
-            crate::put::bytes(out, b" ; done");
+// What a call answers: the numbers of rows that joined and left, both 0 where it is refused.
+fn list_answer(out: Stdout, changed: Result<Change, Refusal>) {
+    put::bytes(out, b" ;");
+    match changed {
+        Ok(c) => {
+            put::bytes(out, b" done");
+            put::word(out, c.joined as u64);
+            put::word(out, c.left as u64);
         }
-        Answer::Refused(number, place) => {
-            crate::put::bytes(out, b" ;");
-            crate::refused(out, number, place);
+        Err(refusal) => {
+            put::refused(out, refusal);
+            put::bytes(out, b" 0 0");
         }
     }
-    crate::word(out, c.joined as u64);
-    crate::word(out, c.left as u64);
-    crate::list_store(out, store);
-    list_view(out, view);
 }
 
+// Stays: a kind is a byte of the input, told apart here alone.
 fn change(
     kind: u8,
-    store: Store,
-    view: View,
+    held: Held,
     bytes: &[u8],
     tuple: Record,
     joined: &mut [u32],
     left: &mut [u32],
-) -> Change {
+) -> Result<Change, Refusal> {
     if kind == b'p' {
-        return standing::put(store, view, bytes, tuple, joined, left);
+        return standing::put(held.store, held.view, bytes, tuple, joined, left);
     }
-    standing::remove(store, view, bytes, tuple, joined, left)
+    standing::remove(held.store, held.view, bytes, tuple, joined, left)
 }
 
 fn changed(
     out: Stdout,
     kind: u8,
-    c: Change,
+    held: Held,
     bytes: &[u8],
     tuple: Record,
     joined: &mut [u32],
     left: &mut [u32],
-) -> Change {
-    let store = c.store;
-    let view = c.view;
-    let after = change(kind, store, view, bytes, tuple, joined, left);
-    list_change(out, after);
-    crate::put::bytes(out, b" buffers");
-    crate::word(out, crate::sum_from(joined, 0));
-    crate::word(out, crate::sum_from(left, 0));
+) -> Held {
+    let answer = change(kind, held, bytes, tuple, joined, left);
+    let after = match answer {
+        Ok(c) => Held {
+            store: c.store,
+            view: c.view,
+        },
+        Err(_) => held,
+    };
+    list_answer(out, answer);
+    crate::list_store(out, after.store);
+    list_view(out, after.view);
+    put::bytes(out, b" buffers");
+    put::word(out, crate::sum_from(joined, 0));
+    put::word(out, crate::sum_from(left, 0));
     after
 }
 
 // The call at a place, on the store and list that the last one left.
-fn call(out: Stdout, c: Change, bytes: &[u8], calls: &[u8], at: usize) -> Change
+fn call(out: Stdout, held: Held, bytes: &[u8], calls: &[u8], at: usize) -> Held
     requires { at < 65536 }
 {
-    let a = crate::pair(calls, at + 18);
-    let b = crate::pair(calls, at + 20);
-    if crate::LENT < a {
-        return c;
-    }
-    if crate::LENT < b {
-        return c;
+    let a = pair(calls, at + 18);
+    let b = pair(calls, at + 20);
+    if crate::LENT < a || crate::LENT < b {
+        return held;
     }
     let mut first = crate::lent(a);
     let mut second = crate::lent(b);
+    let tuple = record_of(calls, at + 1);
     changed(
         out,
-        crate::byte(calls, at),
-        c,
+        byte(calls, at),
+        held,
         bytes,
-        crate::record_of(calls, at + 1),
+        tuple,
         &mut first[..a],
         &mut second[..b],
     )
 }
 
-fn go_on(out: Stdout, store: Store, view: View, bytes: &[u8], calls: &[u8]) {
-    list_view(out, view);
-    let end = crate::capped(calls.len());
-    let mut c = Change {
-        answer: Answer::Done,
-        joined: 0,
-        left: 0,
-        store,
-        view,
-    };
-    let mut at = 0;
-    while at + CALL <= end {
-        c = call(out, c, bytes, calls, at);
-        at += CALL;
+fn go_on(out: Stdout, held: Held, bytes: &[u8], calls: &[u8]) {
+    list_view(out, held.view);
+    let mut now = held;
+    for i in 0..calls.len().min(65536) / CALL {
+        now = call(out, now, bytes, calls, CALL * i);
     }
 }
 
 fn opened(out: Stdout, store: Store, bytes: &[u8], calls: &[u8]) {
-    let opening = standing::open(store, bytes);
-    let answer = opening.answer;
-    let view = opening.view;
-    match answer {
-        Answer::Done => go_on(out, store, view, bytes, calls),
-        Answer::Refused(number, place) => {
-            crate::refused(out, number, place);
-            list_view(out, view);
+    match standing::open(store, bytes) {
+        Ok(view) => go_on(out, Held { store, view }, bytes, calls),
+        Err(refusal) => {
+            put::refused(out, refusal);
+            list_view(out, unopened());
         }
+    }
+}
+
+// The list of a refused opening: no columns and no rows.
+fn unopened() -> View {
+    View {
+        columns: Columns {
+            variables: [0u8; 4],
+            count: 0,
+        },
+        rows: Rows {
+            values: [0u32; standing::NUMBERS],
+            count: 0,
+        },
+        endless: false,
+        opening: 0,
+        joined: 0,
+        left: 0,
     }
 }
 
 // Whether the list is handed in, the length of the query, a store, the query, a list that is handed in, and the calls.
 pub fn run(out: Stdout, body: &[u8]) {
-    let start = 23 + 17 * crate::pair(body, 21);
-    let end = start + crate::pair(body, 1);
-    if body.len() < end {
+    let start = 23 + 17 * pair(body, 21);
+    let end = start + pair(body, 1);
+    if body.len() < end || 65536 < end {
         return;
     }
-    if 65536 < end {
-        return;
-    }
-    let store = crate::store_of(body, 3);
-    if crate::byte(body, 0) == 0 {
+    let store = store_of(body, 3);
+    if byte(body, 0) == 0 {
         opened(out, store, &body[start..end], &body[end..]);
         return;
     }
-    let calls = end + 35 + 16 * crate::pair(body, end + 8);
+    let calls = end + 35 + 16 * pair(body, end + 8);
     if body.len() < calls {
         return;
     }
-    go_on(
-        out,
+    let held = Held {
         store,
-        view_of(body, end),
-        &body[start..end],
-        &body[calls..],
-    );
+        view: view_of(body, end),
+    };
+    go_on(out, held, &body[start..end], &body[calls..]);
 }

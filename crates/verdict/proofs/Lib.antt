@@ -1,3 +1,4 @@
-pub mod Theory
+pub mod Fronts
 pub mod Sets
+pub mod Theory
 pub mod Writing

@@ -6,28 +6,36 @@ use mathlib.Core.Path.{◌≡◌, refl, sym, ap, subst, subst⁻¹, ◌∙◌}
 use mathlib.Core.Logic.{inl, inr}
 use mathlib.Core.Bool.{Bool, true, false, true≢false, not, cond}
 use mathlib.Core.List.{List, [], ◌∷◌, ◌++◌}
-use lib.ListN.{length, get_or, take, set, replicate, length-append, length-take}
+use lib.ListN.{length, get_or, take, drop, set, replicate, length-append, length-take}
 use lib.Dec.{T, eqb}
-use lib.Seq.{take-append_seam, take-suc, take-take, length-take-le, get_or-take}
-use borrow.Author.Tests.{eq-eqb, ne_eqb, eqb-true, eqb-false}
-use Rattle.calculus.specs.Sets.{In, here, member}
+use lib.Seq.{take-append_seam, drop-append_seam, drop-drop, take-suc, take-take, length-take-le, get_or-take}
+use borrow.Author.Tests.{eq-eqb, ne_eqb}
+use Rattle.calculus.specs.Sets.{In, here}
 use Rattle.calculus.specs.Lists.{padded}
-use Rattle.calculus.proofs.Theory.Lists.Laws.{length-padded, padded-over, padded-fill, padded-put}
-use Rattle.calculus.specs.Formula.{Fmla, truth, neg, exists, fv, size}
+use Rattle.calculus.proofs.Theory.Lists.Laws.{length-padded, padded-over, padded-put}
+use Rattle.calculus.specs.Formula.{Fmla, truth, neg, exists, size}
 use Rattle.calculus.specs.Propagation.{is_truth as is-a-truth, cp}
 use Rattle.calculus.proofs.Theory.Propagation.Laws.{TruthView, a_truth, no_truth, truth-view, join, cp_join, join-unit-left, join-zero-left, size-cp}
 use Rattle.causes.specs.Causes.{widths_fit}
-use Rattle.query.specs.Nodes.{kind, variable, left, right, under, children, malformed, mismatched, not_word, join_word, exists_word}
+use Rattle.query.specs.Nodes.{kind, variable, equal_term, left, right, under, children, malformed, mismatched}
 use Rattle.query.proofs.Theory.Nodes.Laws.{both-children}
-use Rattle.query.specs.Decoding.{node_formula, formula_at, root}
+use Rattle.query.specs.Code.Fields.{kind_of, IsNode}
+use Rattle.query.specs.declared.node.Node.{Node}
+use Rattle.query.specs.declared.node.Node.TheVariants.{Truth, Record, Equality, Not, Join, Exists, Unknown}
+use Rattle.query.specs.declared.node.Connective.{Connective}
+use Rattle.query.specs.declared.node.Connective.TheVariants.{And, Or}
+use Rattle.query.specs.Decoding.{node_formula, formula_at}
 use Rattle.query.specs.declared.Query.{Query}
 use Rattle.query.specs.Reading.{max_nodes, max_constants, formula}
 use Rattle.query.specs.Packing.{words, Fits}
 use Rattle.query.proofs.Theory.Packing.Fields.{formed-kind}
 use Rattle.query.proofs.Theory.Packing.Laws.{size-positive, length-words}
 use Rattle.query.proofs.Theory.Accepted.Laws.{formula-node, formula-fits, formula-last}
+use Rattle.std.proofs.lemmas.List.{replicate-append-replicate}
+use borrow.Rule.Slice.PartMut.{put_mid}
+use Rattle.verdict.specs.declared.form.Words.{Words}
 use Rattle.verdict.specs.Form.{form_of}
-use Rattle.verdict.specs.Code.Form.{IsAccepted, InQuery, written, last, true_word, settled, negated, joined, unit_word, quantified}
+use Rattle.verdict.specs.Code.Form.{IsAccepted, InQuery, held, IsHeld, written, last, true_word, settled, negated, joined, unit_word, quantified}
 use Rattle.verdict.proofs.Theory.Form.Laws.{join_kind, last-truth, fits-cp, last-kind, negated-words, joined_words, quantified-words, leaf-words, equality-words}
 
 -- ---- one element more
@@ -76,7 +84,17 @@ module _ (out : List ℕ) (at : ℕ) where
         array : set out at w ≡ padded max_nodes 0 (xs ++ (w ∷ []))
         array = (λ i. set (array-is i) (count_is i) w) ∙ padded-put max_nodes 0 xs w (omega (arith, count_is))
 
--- The last of `end` words is written over, and is dropped.
+-- As the code has them: one struct of both.
+abbrev pub pair : Words → ℕ × List ℕ
+pair w = (w.count, w.nodes)
+
+abbrev pub struct_of : ℕ × List ℕ → Words
+struct_of p = record { nodes = p.1; count = p.0 }
+
+pub held-struct : (w : Words) (xs : List ℕ) → w ≡ held xs → IsHeld w
+held-struct w xs e = e ∙ ap held (sym (front-is w.nodes w.count xs (ap pair e)))
+
+-- The last of `end` words is written over.
 module _ (out : List ℕ) (end : ℕ) (ys : List ℕ) (v : ℕ) (e : (end, out) ≡ written (ys ++ (v ∷ []))) where
   count_less : end - 1 ≡ length ys
   count_less = omega (arith, count_is out end (ys ++ (v ∷ [])) e, length-snoc ys v)
@@ -90,14 +108,30 @@ module _ (out : List ℕ) (end : ℕ) (ys : List ℕ) (v : ℕ) (e : (end, out) 
       array : set out (end - 1) w ≡ padded max_nodes 0 (ys ++ (w ∷ []))
       array = (λ i. set (e i).1 (count_less i) w) ∙ padded-over max_nodes 0 ys v w
 
-  held-less : end ≤ max_nodes → (end - 1, set out (end - 1) 0) ≡ written ys
-  held-less h = λ i. (count_less i, array i)
-    where
-      array : set out (end - 1) 0 ≡ padded max_nodes 0 ys
-      array = ap (λ p. p.1) (held-over 0) ∙ padded-fill max_nodes 0 ys (omega (arith, count_is out end (ys ++ (v ∷ [])) e, length-snoc ys v))
+-- The last of them are dropped.
+module _ (out : List ℕ) (at end : ℕ) (xs : List ℕ) (h : at ≤ end) (m : end ≤ max_nodes) (e : (end, out) ≡ written xs) where
+  length_front : length (take at xs) ≡ at
+  length_front = length-take-le at xs (omega (arith, count_is out end xs e))
 
-pub held_cut : (out now : List ℕ) (i : ℕ) → 0 < i → i ≤ max_nodes → length out ≡ max_nodes → now ≡ padded max_nodes 0 (take i out) → set now (i - 1) 0 ≡ padded max_nodes 0 (take (i - 1) out)
-held_cut out now i h l n e = ap (λ p. p.1) (held-less now i (take (i - 1) out) (get_or out (i - 1) 0) ((λ j. (sym (length-take-le i out (omega arith)) j, e j)) ∙ ap written (take_last out i h (omega arith))) l)
+  zeros_after : drop (end - at) (drop at out) ≡ replicate (max_nodes - end) 0
+  zeros_after =
+      drop-drop (end - at) at out
+      ∙ ap (λ k. drop k out) (omega arith)
+      ∙ (λ i. drop (count_is out end xs e i) (array-is out end xs e i))
+      ∙ drop-append_seam xs (replicate (max_nodes - length xs) 0)
+      ∙ ap (λ k. replicate (max_nodes - k) 0) (sym (count_is out end xs e))
+
+  pub held_cut : (k : ℕ) → k ≡ end - at → (at, put_mid at (end - at) out (replicate k 0)) ≡ written (take at xs)
+  held_cut k d = λ i. (sym length_front i, array i)
+    where
+      array : take at out ++ (replicate k 0 ++ drop (end - at) (drop at out)) ≡ padded max_nodes 0 (take at xs)
+      array =
+          (λ i. take-front i ++ (replicate k 0 ++ zeros_after i))
+          ∙ ap (λ l. take at xs ++ l) (replicate-append-replicate k (max_nodes - end) 0)
+          ∙ ap (λ j. take at xs ++ replicate j 0) (omega (arith, length_front))
+        where
+          take-front : take at out ≡ take at xs
+          take-front = sym (take-take at end out h) ∙ ap (take at) (front-is out end xs e)
 
 -- ---- the words up to `end`, and what a node does to them
 
@@ -122,30 +156,6 @@ module _ (out : List ℕ) (end : ℕ) (some : 1 ≤ end) (room : end < max_nodes
 
   pub negated-true : get_or out (end - 1) 0 ≡ true_word → (end, set out (end - 1) 0) ≡ written (negated (take end out))
   negated-true h = rw (last-is, h) (over 0)
-
-  pub negated-other : (get_or out (end - 1) 0 ≡ 0 → ⊥) → (get_or out (end - 1) 0 ≡ true_word → ⊥) → {p : ℕ × List ℕ} → p ≡ written (take end out ++ (not_word (end - 1) ∷ [])) → p ≡ written (negated (take end out))
-  negated-other f t q = rw (ne_eqb (last (take end out)) 0 (λ h. f (sym last-is ∙ h)), ne_eqb (last (take end out)) true_word (λ h. t (sym last-is ∙ h)), count) q
-
-  -- Cut to the first of them.
-  pub held_first : (now : List ℕ) (at : ℕ) → at ≤ end → now ≡ padded max_nodes 0 (take at out) → (at, now) ≡ written (take at (take end out))
-  held_first now at h n = (λ i. (sym (length-take-le at out (omega (arith, places out end (omega arith) e))) i, n i)) ∙ ap written (sym (take-take at end out h))
-
-  module _ (k at middle : ℕ) where
-    pub joined-other : (kind (get_or out (end - 1) 0) ≡ 0 → ⊥) → {p : ℕ × List ℕ} → p ≡ written (take end out ++ (join_word k (middle - 1) (end - 1) ∷ [])) → p ≡ written (joined k at middle (take end out))
-    joined-other f q = rw (last-is, ne_eqb (kind (get_or out (end - 1) 0)) 0 f, count) q
-
-    module _ (h : kind (get_or out (end - 1) 0) ≡ 0) where
-      pub joined-unit : (now : List ℕ) → middle ≤ end → now ≡ padded max_nodes 0 (take middle out) → get_or out (end - 1) 0 ≡ unit_word k → (middle, now) ≡ written (joined k at middle (take end out))
-      joined-unit now l n u = rw (last-is, eq-eqb (kind (get_or out (end - 1) 0)) 0 h, eq-eqb (get_or out (end - 1) 0) (unit_word k) u) (held_first now middle l n)
-
-      pub joined-zero : (now : List ℕ) → at ≤ end → now ≡ padded max_nodes 0 (take at out) → (get_or out (end - 1) 0 ≡ unit_word k → ⊥) → {p : ℕ × List ℕ} → p ≡ written (take at now ++ (get_or out (end - 1) 0 ∷ [])) → p ≡ written (joined k at middle (take end out))
-      joined-zero now l n u q = rw (last-is, eq-eqb (kind (get_or out (end - 1) 0)) 0 h, ne_eqb (get_or out (end - 1) 0) (unit_word k) u) (q ∙ ap (λ ys. written (ys ++ (get_or out (end - 1) 0 ∷ []))) (front-is now at (take at (take end out)) (held_first now at l n)))
-
-  pub quantified-kept : (x : ℕ) → member x (fv (root (take end out))) ≡ true → {p : ℕ × List ℕ} → p ≡ written (take end out ++ (exists_word x (end - 1) ∷ [])) → p ≡ written (quantified x (take end out))
-  quantified-kept x f q = rw (f, count) q
-
-  pub quantified-dropped : (x : ℕ) → member x (fv (root (take end out))) ≡ false → (end, out) ≡ written (quantified x (take end out))
-  quantified-dropped x f = rw f held-end
 
 -- ---- a form after other words
 
@@ -193,12 +203,41 @@ cp-of-join : (u : Bool) (φ ψ : Fmla) → cp (join u φ ψ) ≡ cp_join u (cp �
 cp-of-join true φ ψ = refl
 cp-of-join false φ ψ = refl
 
-pub join_kind-of : (k : ℕ) → 4 ≤ k → k ≤ 5 → (u : Bool) × (k ≡ join_kind u)
-join_kind-of k h l = go (eqb k 4) refl
-  where
-    go : (b : Bool) → eqb k 4 ≡ b → (u : Bool) × (k ≡ join_kind u)
-    go true e = (true, eqb-true k 4 e)
-    go false e = (false, omega (arith, eqb-false k 4 e))
+-- The truth value that a connective drops.
+abbrev pub drops : Connective → Bool
+drops And = true
+drops Or = false
+
+pub kind-drops : (k : Connective) → kind_of k ≡ join_kind (drops k)
+kind-drops And = refl
+kind-drops Or = refl
+
+-- What is left over: a truth value or a record.
+pub leaf-kind : (w : ℕ) (n : Node) → IsNode w n → kind w < 7 → ((x t : ℕ) → n ≡ Equality x t → ⊥) → ((c : ℕ) → n ≡ Not c → ⊥) → ((k : Connective) (l r : ℕ) → n ≡ Join k l r → ⊥) → ((x c : ℕ) → n ≡ Exists x c → ⊥) → kind w ≤ 1
+leaf-kind w (Truth b) h l e f g k = omega (arith, h.0)
+leaf-kind w (Record a) h l e f g k = omega (arith, h.0)
+leaf-kind w (Equality x t) h l e f g k = absurd (e x t refl)
+leaf-kind w (Not c) h l e f g k = absurd (f c refl)
+leaf-kind w (Join j m r) h l e f g k = absurd (g j m r refl)
+leaf-kind w (Exists x c) h l e f g k = absurd (k x c refl)
+leaf-kind w Unknown h l e f g k = absurd (omega arith)
+
+pub no-truth-value : (w : ℕ) (n : Node) → IsNode w n → ((b : Bool) → n ≡ Truth b → ⊥) → kind w ≡ 0 → ⊥
+no-truth-value w (Truth b) h f e = f b refl
+no-truth-value w (Record a) h f e = omega (arith, h.0)
+no-truth-value w (Equality x t) h f e = omega (arith, h.0)
+no-truth-value w (Not c) h f e = omega (arith, h.0)
+no-truth-value w (Join And m r) h f e = omega (arith, h.0)
+no-truth-value w (Join Or m r) h f e = omega (arith, h.0)
+no-truth-value w (Exists x c) h f e = omega (arith, h.0)
+no-truth-value w Unknown h f e = omega arith
+
+-- An equality as the test tells it.
+pub settled-same : (w x t : ℕ) → x ≡ variable w → t ≡ equal_term w → x ≡ t → true_word ≡ settled w
+settled-same w x t d e h = rw (eq-eqb (variable w) (equal_term w) (sym d ∙ h ∙ e))
+
+pub settled-other : (w x t : ℕ) → x ≡ variable w → t ≡ equal_term w → (x ≡ t → ⊥) → w ≡ settled w
+settled-other w x t d e h = rw (ne_eqb (variable w) (equal_term w) (λ f. h (d ∙ f ∙ sym e)))
 
 -- ---- truth values, as formulas and as words
 
@@ -237,8 +276,12 @@ pub record Child (ns : List ℕ) (i c at : ℕ) : Type 0 where
   pub room : at + size (formula_at ns c) < max_nodes
 
 -- As the call asks for it, at a measure that is i.
-pub child-asks : {ns : List ℕ} {i c at t : ℕ} → i ≡ t → Child ns i c at → {A : Type 0} → A → (c < t) × ((InQuery ns c × (at + size (formula_at ns c) ≤ max_nodes)) × A)
-child-asks e a z = (omega (arith, a.below), ((a.inside, omega (arith, a.room)), z))
+pub child-asks : {ns : List ℕ} {i c at t : ℕ} → i ≡ t → Child ns i c at → {A : Type 0} → A → (c < t) × (InQuery ns c × A × (at + size (formula_at ns c) ≤ max_nodes))
+child-asks e a z = (omega (arith, a.below), (a.inside, z, omega (arith, a.room)))
+
+-- Of what the code asks for.
+pub task : {ns : List ℕ} {i : ℕ} {out : Words} → InQuery ns i × IsHeld out × (out.count + size (formula_at ns i) ≤ max_nodes) → Task ns i out.nodes out.count
+task r = record { inside = r.0; room = r.2; zeros = ap (λ (w : Words). w.nodes) r.1 }
 
 -- What it has done.
 abbrev pub Done : List ℕ → ℕ → List ℕ → ℕ → ℕ × List ℕ → Type 0
@@ -380,6 +423,10 @@ module _ {ns : List ℕ} {i : ℕ} {out : List ℕ} {at : ℕ} (k : Task ns i ou
       abbrev first : ℕ
       first = get_or now (middle - 1) 0
 
+      -- Without it the words are as before.
+      pub before_it : take at (take middle now) ≡ take at out
+      before_it = (λ j. take (sym count_at j) ((child-grown (left w) g).front j)) ∙ take-append_seam (take at out) (words φ at)
+
       first_is : last (take at out ++ words φ (length (take at out))) ≡ first
       first_is =
           let r = child-grown (left w) g in
@@ -416,21 +463,9 @@ module _ {ns : List ℕ} {i : ℕ} {out : List ℕ} {at : ℕ} (k : Task ns i ou
           dropped : φ ≡ truth u
           dropped = value.1 ∙ ap truth (same_truth value.0 u (sym first_word ∙ e ∙ unit-is))
 
-          one_more : middle ≡ at + 1
-          one_more = (child-grown (left w) g).ends ∙ ap (λ χ. at + size χ) dropped
-
-          cleared : (at, set now at 0) ≡ written (take at out)
-          cleared =
-              subst (λ m. (m, set now m 0) ≡ written (take at out)) (omega (arith, one_more))
-              (held-less now middle (take at out) (cond u true_word 0) (g ∙ ap (λ χ. written (take at out ++ words χ at)) dropped) (omega (arith, one_more, k.room, size-positive (formula_at ns i))))
-
-          pub cleared-zeros : set now at 0 ≡ padded max_nodes 0 (take at (set now at 0))
-          cleared-zeros = held-again (set now at 0) at (take at out) cleared
-
-          pub right-done : {p : ℕ × List ℕ} → Done ns (right w) (set now at 0) at p → Done ns i out at p
+          pub right-done : {p : ℕ × List ℕ} → Done ns (right w) out at p → Done ns i out at p
           right-done f =
-              f ∙ ap (λ l. written (l ++ words ψ at)) (front-is (set now at 0) at (take at out) cleared)
-              ∙ ap (λ χ. written (take at out ++ words χ at)) (sym (join-form ∙ ap (λ χ. cp_join u χ ψ) dropped ∙ join-unit-left u ψ))
+              f ∙ ap (λ χ. written (take at out ++ words χ at)) (sym (join-form ∙ ap (λ χ. cp_join u χ ψ) dropped ∙ join-unit-left u ψ))
 
       -- It is none: the right subtree's form follows.
       pub both-grown : (fin : List ℕ) (end : ℕ) → Done ns (right w) now middle (end, fin) → Grown now middle (formula_at ns (right w)) fin end

@@ -14,16 +14,15 @@ ghost use Rattle.std.specs.Prelude.{◌≡◌};
 ghost use Rattle.calculus.specs.Generators.{columns as columns_read};
 ghost use Rattle.query.specs.Reading.{formula, columns_of};
 ghost use Rattle.verdict.specs.Code.Form.{IsAccepted};
-ghost use Rattle.verdict.specs.Verdict.{refusal_with, judged as judgement, verdict_of};
+ghost use Rattle.verdict.specs.Verdict.{verdict_in, judging_of, judged as judgement, verdict_of};
 
-use causes::{Answer, RELATIONS};
+use causes::{RELATIONS, Refusal};
 use query::{COLUMNS, Columns, Query};
 
-// What the verdict answers. Generators are numbers of nodes of the form, node 0 the highest of 64 bits; `ungenerated` has variable 0 as the highest of 16,
-// `unranged` node 0 of the form as the highest of 64. A refusal comes with nothing else.
+// The verdict. Generators are numbers of nodes of the form, node 0 the highest of 64 bits; `ungenerated` has variable 0 as the highest of 16, `unranged` node 0
+// of the form as the highest of 64.
 #[derive(Clone, Copy)]
 pub struct Verdict {
-    pub answer: Answer,
     pub form: Query,
     pub columns: Columns,
     pub generators: [u64; COLUMNS],
@@ -32,37 +31,18 @@ pub struct Verdict {
     pub safe: bool,
 }
 
-// The reply of a refusal, with the query and the columns that the reader hands back then: none. For calls that read the query themselves, too.
-pub fn refused(number: u8, place: u64, form: Query, columns: Columns) -> Verdict
-    ensures { result ≡ refusal_with number place form columns }
-{
-    Verdict {
-        answer: Answer::Refused(number, place),
-        form,
-        columns,
-        generators: [0u64; COLUMNS],
-        ungenerated: 0,
-        unranged: 0,
-        safe: false,
-    }
-}
-
 // The verdict on an accepted query, with its columns.
 pub fn judged(read: Query, columns: Columns) -> Verdict
     requires { IsAccepted read × (columns ≡ columns_of (columns_read (formula read))) }
-    ensures { result ≡ judgement read }
+    ensures { verdict_in result ≡ judgement read }
 {
     let form = form::form_of(read);
-    let nodes = form.nodes;
     let n = form.node_count;
-    let sets = generate::generated(&nodes, n);
-    let plains = sets.plains;
-    let denieds = sets.denieds;
-    let generators = report::generators(&nodes, &plains, &denieds, n, columns);
-    let ungenerated = report::ungenerated(plains[n - 1], columns);
-    let unranged = report::unranged(&nodes, &plains, n);
+    let judged = generate::generated(&form.nodes[..n]);
+    let generators = report::generators(&judged, columns);
+    let ungenerated = report::ungenerated(judged.plains[n - 1], columns);
+    let unranged = report::unranged(&judged);
     Verdict {
-        answer: Answer::Done,
         form,
         columns,
         generators,
@@ -73,15 +53,9 @@ pub fn judged(read: Query, columns: Columns) -> Verdict
 }
 
 // The verdict on the query that the bytes hold, for relations of these widths: causes 1 and 3 to 10.
-pub fn judge(bytes: &[u8], widths: [u8; RELATIONS]) -> Verdict
-    ensures { result ≡ verdict_of widths bytes.now }
+pub fn judge(bytes: &[u8], widths: [u8; RELATIONS]) -> Result<Verdict, Refusal>
+    ensures { judging_of result ≡ verdict_of widths bytes.now }
 {
-    let reading = query::read(bytes, widths);
-    let answer = reading.answer;
-    let read = reading.query;
-    let columns = reading.columns;
-    if let Answer::Refused(number, place) = answer {
-        return refused(number, place, read, columns);
-    }
-    judged(read, columns)
+    let parsed = query::read(bytes, widths)?;
+    Ok(judged(parsed.query, parsed.columns))
 }

@@ -1,34 +1,25 @@
 // What the verdict reports: the generators of each column, the columns that aren't generated, and the exists nodes whose variable isn't. It asks for the nodes
 // of a form with their sets, and for columns as the reader hands them back: at most 4, each below 16.
-ghost use Rattle.std.specs.Prelude.{◌≡◌, ℕ, ◌≤◌, ◌<◌};
+ghost use Rattle.std.specs.Prelude.{◌≡◌, ℕ, ◌≤◌, ◌<◌, length};
 ghost use Rattle.calculus.specs.Sets.{In};
 ghost use Rattle.query.specs.Reading.{max_columns, variables_in};
-ghost use Rattle.verdict.specs.Code.Form.{IsForm};
-ghost use Rattle.verdict.specs.Code.Generating.{sets_of, numbers_of, missing_from, unranged_in};
+ghost use Rattle.verdict.specs.Code.Generating.{IsJudged, numbers_of, missing_from, unranged_in};
 
+use crate::generate::Judged;
 use crate::{bits, source};
-use query::{COLUMNS, Columns, NODES, node};
+use query::node::{self, Node};
+use query::{COLUMNS, Columns};
 
 // The generators of each column.
-pub fn generators<'a>(
-    nodes: &'a [u32; NODES],
-    plains: &'a [u16; NODES],
-    denieds: &'a [u16; NODES],
-    n: usize,
-    columns: Columns,
-) -> [u64; COLUMNS]
-    requires form { IsForm nodes.now n × (plains.now ≡ (sets_of nodes.now n).plains) × (denieds.now ≡ (sets_of nodes.now n).denieds) }
+pub fn generators(judged: &Judged, columns: Columns) -> [u64; COLUMNS]
+    requires form { IsJudged judged.now }
     requires count_le_max_columns { (columns.count ≤ max_columns) × ((x : ℕ) → In x (variables_in columns) → x < 16) }
-    ensures { result ≡ numbers_of nodes.now n (variables_in columns) }
+    ensures { result ≡ numbers_of judged.now.nodes.now (length judged.now.nodes.now) (variables_in columns) }
 {
-    let variables = columns.variables;
-    let count = columns.count;
+    let root = judged.nodes.len() - 1;
     let mut numbers = [0u64; COLUMNS];
-    let mut c = 0;
-    while c < count {
-        let x = query::wide(variables[c]);
-        numbers[c] = source::plain(nodes, plains, denieds, n, n - 1, x);
-        c += 1;
+    for (c, x) in columns.variables[..columns.count].iter().enumerate() {
+        numbers[c] = source::plain(judged, root, u32::from(*x));
     }
     numbers
 }
@@ -38,41 +29,28 @@ pub fn ungenerated(set: u16, columns: Columns) -> u16
     requires { columns.count ≤ max_columns }
     ensures { result ≡ missing_from set (variables_in columns) }
 {
-    let variables = columns.variables;
-    let count = columns.count;
-    let mut missing: u16 = 0;
-    let mut c = 0;
-    while c < count {
-        let x = query::wide(variables[c]);
+    let mut missing = 0;
+    for x in &columns.variables[..columns.count] {
+        let x = u32::from(*x);
         if !bits::is_in(x, set) {
-            missing = missing | bits::term_bit(x);
+            missing |= bits::term_bit(x);
         }
-        c += 1;
     }
     missing
 }
 
 // The exists nodes whose variable isn't generated in their child.
-pub fn unranged<'a>(nodes: &'a [u32; NODES], plains: &'a [u16; NODES], n: usize) -> u64
-    requires { IsForm nodes.now n × (plains.now ≡ (sets_of nodes.now n).plains) }
-    ensures { result ≡ unranged_in nodes.now n }
+pub fn unranged(judged: &Judged) -> u64
+    requires { IsJudged judged.now }
+    ensures { result ≡ unranged_in judged.now.nodes.now (length judged.now.nodes.now) }
 {
-    // As a slice: that gives the proof the length.
-    let all: &[u32] = nodes;
-    let mut found: u64 = 0;
-    let mut i = 0;
-    while i < n {
-        let w = all[i];
-        let f = node::fields(w);
-        let kind = f.kind;
-        let variable = f.variable;
-        let under = f.under;
-        if kind == 6 {
-            if !bits::is_in(variable, plains[under]) {
-                found = found | bits::node_bit(i);
+    let mut found = 0;
+    for (i, w) in judged.nodes.iter().enumerate() {
+        if let Node::Exists(x, child) = node::of(*w) {
+            if !bits::is_in(x, judged.plains[child]) {
+                found |= bits::node_bit(i);
             }
         }
-        i += 1;
     }
     found
 }

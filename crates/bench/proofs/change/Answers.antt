@@ -9,6 +9,6 @@ returns-then-removal c =
     let a = c.args in
     c.remove.ensures ∙ ap (λ b. change_of (action_of b a.tuple) a.store a.view a.bytes.now a.joined.now a.left.now) (sym c.if-removal.true)
 
-pub returns : goal.returns
-returns c =
+pub returns-else-removal : goal.returns-else-removal
+returns-else-removal c =
     let a = c.args in c.put.ensures ∙ ap (λ b. change_of (action_of b a.tuple) a.store a.view a.bytes.now a.joined.now a.left.now) (sym c.if-removal.false)

@@ -2,7 +2,7 @@
 use Rattle.std.specs.Prelude.{◌≤◌}
 use Rattle.query.specs.Reading.{max_columns}
 use Rattle.query.specs.Code.Writing.{Few}
-use Rattle.verdict.specs.declared.Verdict.{Verdict}
+use Rattle.verdict.specs.Verdict.{Verdict}
 
 -- A verdict within the limits, as one on an accepted query is.
 abbrev pub Writable : Verdict → Type 0

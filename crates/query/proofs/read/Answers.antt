@@ -4,18 +4,17 @@ use native.Mathlib.Omega.{arith}
 use mathlib.Core.Path.{◌≡◌, refl, sym, ap, subst, ◌∙◌}
 use mathlib.Core.List.{List, ◌++◌}
 use lib.ListN.{length, take, drop, replicate}
-use lib.Seq.{take_all}
+use lib.Seq.{take_all, length-take-le}
+use Rattle.std.proofs.lemmas.List.{length-replicate}
 use Rattle.calculus.specs.Lists.{tabulate, padded}
 use Rattle.calculus.proofs.Theory.Lists.Laws.{length-tabulate}
 use Rattle.calculus.specs.Generators.{columns}
-use Rattle.causes.specs.declared.Answer.{Answer}
-use Rattle.causes.specs.declared.Answer.TheVariants.{Done}
-use Rattle.causes.specs.Causes.{first_cause}
+use Rattle.causes.specs.Causes.{Answer, Done, first_cause, refusal_of}
+use Rattle.std.proofs.Common.{rules, Err}
 use Rattle.query.specs.declared.Columns.{Columns}
-use Rattle.query.specs.declared.Reading.{Reading}
+use Rattle.query.specs.Reading.{Reading, reading_of, word_at, count_of_nodes, count_of_constants, constants_of, nodes_of, header_checks, tree_checks, columns_of, accepted, max_nodes}
 use Rattle.query.specs.Decoding.{root}
 use Rattle.query.specs.Code.Free.{columns_found}
-use Rattle.query.specs.Reading.{word_at, count_of_nodes, count_of_constants, constants_of, nodes_of, header_checks, tree_checks, columns_of, accepted, max_nodes}
 use Rattle.query.proofs.Theory.Reading.Laws.{header-done, refused-tree, refused-columns, reply-accepted, Fitting, fitting, nodes-read, nodes-padded, constants-padded}
 use Rattle.query.proofs.read.Goals as goal
 
@@ -34,48 +33,70 @@ assembled {bs} {n} {k} f cs ns xs e₁ e₂ e₃ =
     let ln : n ≡ length (nodes_of bs) = f.nodes ∙ sym (length-tabulate (λ i. word_at bs (2 + 4 * count_of_constants bs + 4 * i)) (count_of_nodes bs)) in
     λ i. reply (e₁ i) (lk i) (e₂ i) (ln i) (e₃ i)
 
+abbrev zeros : ℕ → List ℕ
+zeros m = replicate m 0
+
+-- A list of zeros whose first n places are filled.
+filled : (f : ℕ → ℕ) (n m : ℕ) (part : List ℕ) → n ≤ m → part ≡ tabulate f (length (take n (zeros m))) → part ++ drop n (zeros m) ≡ tabulate f n ++ drop n (zeros m)
+filled f n m part h e =
+    let l : n ≤ length (zeros m) = omega (arith, length-replicate {A = ℕ} m 0) in
+    ap (λ p. p ++ drop n (zeros m)) (e ∙ ap (tabulate f) (length-take-le n (zeros m) l))
+
 -- The header is passed, and the counts and the nodes are read.
-module _ (ws bs : List ℕ) (n k : ℕ) (out : List ℕ) (passed : Done ≡ first_cause (header_checks ws bs)) (en : n ≡ count_of_nodes bs) (ek : k ≡ count_of_constants bs) (e : out ≡ tabulate (λ i. word_at bs (2 + 4 * k + 4 * i)) n ++ drop n (replicate max_nodes 0)) where
+module _ (ws bs : List ℕ) (n k : ℕ) (part : List ℕ) (passed : Done ≡ first_cause (header_checks ws bs)) (en : n ≡ count_of_nodes bs) (ek : k ≡ count_of_constants bs) (e : part ≡ tabulate (λ i. word_at bs (2 + 4 * k + 4 * i)) (length (take n (zeros max_nodes)))) where
   fits : Fitting bs n k
   fits = fitting (header-done ws bs Done passed refl) n k en ek
+
+  abbrev out : List ℕ
+  out = part ++ drop n (zeros max_nodes)
+
+  nodes-now : out ≡ tabulate (λ i. word_at bs (2 + 4 * k + 4 * i)) n ++ drop n (zeros max_nodes)
+  nodes-now = filled (λ i. word_at bs (2 + 4 * k + 4 * i)) n max_nodes part fits.few_nodes e
 
   -- The answer on the nodes as they are read is that on the packed ones.
   judged : (a : Answer) → a ≡ first_cause (tree_checks ws k (take n out)) → a ≡ first_cause (tree_checks ws (count_of_constants bs) (nodes_of bs))
   judged a g =
       g
-      ∙ ap (λ (ns : List ℕ). first_cause (tree_checks ws k ns)) (nodes-read fits out (drop n (replicate max_nodes 0)) e)
+      ∙ ap (λ (ns : List ℕ). first_cause (tree_checks ws k ns)) (nodes-read fits out (drop n (zeros max_nodes)) nodes-now)
       ∙ ap (λ (j : ℕ). first_cause (tree_checks ws j (nodes_of bs))) ek
 
   -- And so are the columns.
   found : (xs : Columns) → xs ≡ columns_found (columns (root (take n out))) → xs ≡ columns_found (columns (root (nodes_of bs)))
-  found xs g = g ∙ ap (λ (ns : List ℕ). columns_found (columns (root ns))) (nodes-read fits out (drop n (replicate max_nodes 0)) e)
+  found xs g = g ∙ ap (λ (ns : List ℕ). columns_found (columns (root ns))) (nodes-read fits out (drop n (zeros max_nodes)) nodes-now)
 
   number : (xs : Columns) → xs ≡ columns_found (columns (root (take n out))) → xs.count ≡ length (columns (root (nodes_of bs)))
   number xs g = ap (λ (ys : Columns). ys.count) (found xs g)
 
-pub returns-in-Refused-tree : goal.returns-in-Refused-tree
-returns-in-Refused-tree c =
-    let ws = c.args.widths in let bs = c.args.bytes.now in let p = c.in_default.ensures in
-    let judged-tree = judged ws bs c.node_count-n.result c.constant_count-k.result c.words-2.new.out p c.node_count-n.ensures c.constant_count-k.ensures c.words-2.ensures c.tree-tree.result c.tree-tree.ensures in
-    c.refused-in-Refused-tree.ensures ∙ refused-tree ws bs p c.tree-tree.result judged-tree c.in-Refused-tree.is
+  -- The reply on a query that is accepted.
+  made : (part₀ : List ℕ) → part₀ ≡ tabulate (λ i. word_at bs (2 + 4 * i)) (length (take k (zeros 16))) → (xs : Columns) → xs ≡ columns_found (columns (root (take n out))) → xs.count ≤ 4
+      → reply (part₀ ++ drop k (zeros 16)) k out n xs ≡ accepted (constants_of bs) (nodes_of bs)
+  made part₀ e₀ xs g h =
+      let few : length (columns (root (nodes_of bs))) ≤ 4 = subst (λ (m : ℕ). m ≤ 4) (number xs g) h in
+      assembled fits (part₀ ++ drop k (zeros 16)) out xs
+      (constants-padded fits (part₀ ++ drop k (zeros 16)) (filled (λ i. word_at bs (2 + 4 * i)) k 16 part₀ fits.few_constants e₀))
+      (nodes-padded fits out nodes-now)
+      (found xs g ∙ few_columns (columns (root (nodes_of bs))) few)
 
-pub returns-then-width-gt-COLUMNS : goal.returns-then-width-gt-COLUMNS
-returns-then-width-gt-COLUMNS c =
-    let ws = c.args.widths in let bs = c.args.bytes.now in let p = c.in_default.ensures in let xs = c.columns-columns in
+pub returns-in_err-tree : goal.returns-in_err-tree
+returns-in_err-tree c =
+    let ws = c.args.widths in let bs = c.args.bytes.now in let p = c.in_ok-header.ensures in let r = c.in_err-tree.field-0.0 in
     let n = c.node_count-n in let k = c.constant_count-k in let out = c.words-2 in
-    c.refused-then-width-gt-COLUMNS.ensures
-    ∙ refused-columns ws bs p
-    (judged ws bs n.result k.result out.new.out p n.ensures k.ensures out.ensures Done c.in_default-tree.ensures)
+    let e : c.from_residual-in_err-tree.result ≡ Err r = search rules in
+    let j = judged ws bs n.result k.result out.new.out p n.ensures k.ensures out.ensures (refusal_of r) c.in_err-tree.ensures in
+    ap reading_of e ∙ refused-tree ws bs p (refusal_of r) j refl
+
+pub returns-then-columns-gt-COLUMNS : goal.returns-then-columns-gt-COLUMNS
+returns-then-columns-gt-COLUMNS c =
+    let ws = c.args.widths in let bs = c.args.bytes.now in let p = c.in_ok-header.ensures in let xs = c.columns-columns in
+    let n = c.node_count-n in let k = c.constant_count-k in let out = c.words-2 in
+    refused-columns ws bs p
+    (judged ws bs n.result k.result out.new.out p n.ensures k.ensures out.ensures Done c.in_ok-tree.ensures)
     (subst (λ (m : ℕ). 4 < m) (number ws bs n.result k.result out.new.out p n.ensures k.ensures out.ensures xs.result xs.ensures) (omega arith))
 
 pub returns : goal.returns
 returns c =
-    let ws = c.args.widths in let bs = c.args.bytes.now in let p = c.in_default.ensures in let xs = c.columns-columns in
+    let ws = c.args.widths in let bs = c.args.bytes.now in let p = c.in_ok-header.ensures in let xs = c.columns-columns in
     let n = c.node_count-n in let k = c.constant_count-k in let out = c.words-2 in
-    let f = fits ws bs n.result k.result out.new.out p n.ensures k.ensures out.ensures in
-    let few : length (columns (root (nodes_of bs))) ≤ 4 = subst (λ (m : ℕ). m ≤ 4) (number ws bs n.result k.result out.new.out p n.ensures k.ensures out.ensures xs.result xs.ensures) (omega arith) in
-    assembled f c.words.new.out out.new.out xs.result
-    (constants-padded f c.words.new.out c.words.ensures)
-    (nodes-padded f out.new.out out.ensures)
-    (found ws bs n.result k.result out.new.out p n.ensures k.ensures out.ensures xs.result xs.ensures ∙ few_columns (columns (root (nodes_of bs))) few)
-    ∙ reply-accepted ws bs p (judged ws bs n.result k.result out.new.out p n.ensures k.ensures out.ensures Done c.in_default-tree.ensures) few
+    let few = subst (λ (m : ℕ). m ≤ 4) (number ws bs n.result k.result out.new.out p n.ensures k.ensures out.ensures xs.result xs.ensures) (omega arith) in
+    made ws bs n.result k.result out.new.out p n.ensures k.ensures out.ensures c.words.new.out c.words.ensures xs.result xs.ensures (omega arith)
+    ∙ reply-accepted ws bs p (judged ws bs n.result k.result out.new.out p n.ensures k.ensures out.ensures Done c.in_ok-tree.ensures) few

@@ -1,9 +1,9 @@
 -- What has been read of a rule, as the code keeps it: each function's result. Definitions only; the laws are in Code/Draft/.
-use Rattle.std.specs.Prelude.{ℕ, ◌+◌, ◌*◌, ◌-◌, ◌≤◌, ◌<◌, Bool, true, false, ◌||◌, cond, List, get_or, set, take, replicate, eqb, ltb, leb}
+use Rattle.std.specs.Prelude.{ℕ, ◌+◌, ◌*◌, ◌-◌, ◌≤◌, ◌<◌, Bool, true, false, ◌||◌, cond, List, get_or, set, take, replicate, eqb, ltb, leb, Option, Some, None}
 use Rattle.query.specs.Nodes.{record_word, equality_word, not_word, join_word}
 use Rattle.query.specs.Reading.{max_nodes, max_constants}
-use Rattle.rules.specs.declared.draft.Head.{Head}
-use Rattle.rules.specs.declared.draft.Body.{Body}
+use Rattle.rules.specs.declared.kept.Head.{Head as HeadWithin}
+use Rattle.rules.specs.declared.kept.Body.{Body as BodyWithin}
 use Rattle.rules.specs.Meaning.{place_in, max_terms, max_number}
 
 -- ---- numbers
@@ -21,6 +21,13 @@ capped_more n d = capped (n * 10 + d)
 
 -- ---- the head
 
+-- The head's variables, the least number that the next one can have, and whether a limit is passed.
+pub record Head : Type 0 where
+  pub variables : List ℕ
+  pub count : ℕ
+  pub least : ℕ
+  pub over : Bool
+
 abbrev pub head_of : List ℕ → ℕ → ℕ → Bool → Head
 head_of xs n least o = record { variables = xs; count = n; least = least; over = o }
 
@@ -35,7 +42,32 @@ put_column h x =
     (head_of h.variables h.count h.least true)
     (head_of (set h.variables h.count x) (h.count + 1) (x + 1) h.over)
 
+-- What is kept of a head: nothing past a limit.
+abbrev pub kept_head : Head → Option Head
+kept_head h = cond h.over None (Some h)
+
+-- The head that the code has.
+abbrev pub head_from : HeadWithin → Head
+head_from h = head_of h.variables h.count h.least false
+
+abbrev pub the_head : Option HeadWithin → Option Head
+the_head None = None
+the_head (Some h) = Some (head_from h)
+
 -- ---- the goals
+
+-- Of the goal being read: whether a not stands before it, whether an X stands before the number, its relation or the variable before its =, and the 5 bits of each
+-- term. Of all goals: which variables they have, how many constants and nodes, and whether a limit is passed.
+pub record Body : Type 0 where
+  pub denied : Bool
+  pub named : Bool
+  pub subject : ℕ
+  pub terms : List ℕ
+  pub count : ℕ
+  pub seen : List Bool
+  pub constants : ℕ
+  pub nodes : ℕ
+  pub over : Bool
 
 abbrev pub body_of : Bool → Bool → ℕ → List ℕ → ℕ → List Bool → ℕ → ℕ → Bool → Body
 body_of d v s ts n seen cs ns o =
@@ -48,6 +80,26 @@ empty_body = body_of false false 0 (replicate max_terms 0) 0 (replicate 16 false
 -- Goals past a limit.
 abbrev pub overrun : Body → Body
 overrun b = body_of b.denied b.named b.subject b.terms b.count b.seen b.constants b.nodes true
+
+-- What is kept of goals: nothing past a limit.
+abbrev pub kept_body : Body → Option Body
+kept_body b = cond b.over None (Some b)
+
+-- The goals that the code has.
+abbrev pub body_from : BodyWithin → Body
+body_from b = body_of b.denied b.named b.subject b.terms b.count b.seen b.constants b.nodes false
+
+abbrev pub the_body : Option BodyWithin → Option Body
+the_body None = None
+the_body (Some b) = Some (body_from b)
+
+-- The same with what is lent beside them, constants or nodes. Past a limit these are of no rule.
+abbrev pub within : {A : Type 0} → Body × A → Option (Body × A)
+within g = cond g.0.over None (Some g)
+
+abbrev pub beside : {A : Type 0} → Option BodyWithin → A → Option (Body × A)
+beside None x = None
+beside (Some b) x = Some (body_from b, x)
 
 -- The bounds that the code's indices rest on.
 pub record Small (b : Body) : Type 0 where
@@ -85,6 +137,10 @@ put_term b x cs = cond (leb max_terms b.count) (overrun b, cs) (cond b.named (pu
 -- Nodes, and how many there are: one more than there is room for where one had none.
 abbrev pub Nodes : Type 0
 Nodes = ℕ × List ℕ
+
+-- What the code has of their number: nothing where one had no room.
+abbrev pub with_room : Nodes → Option ℕ × List ℕ
+with_room a = (cond (ltb max_nodes a.0) None (Some a.0), a.1)
 
 abbrev pub add_word : ℕ → ℕ → List ℕ → Nodes
 add_word w n ns = cond (leb max_nodes n) (max_nodes + 1, ns) (n + 1, set ns n w)

@@ -1,17 +1,14 @@
 -- The end of a rule, as the code has it: the quantifiers, and the reply. Definitions only; the laws are in Code/Finish/.
 use Rattle.std.specs.Prelude.{ℕ, zero, suc, ◌+◌, ◌*◌, ◌-◌, ◌≤◌, ◌<◌, Bool, false, not, ◌&&◌, cond, List, [], ◌∷◌, get_or, take, replicate, ltb}
 use Rattle.calculus.specs.Sets.{any_of, member}
-use Rattle.causes.specs.declared.Answer.TheVariants.{Done}
+use Rattle.causes.specs.Causes.{Done}
 use Rattle.query.specs.Nodes.{exists_word}
 use Rattle.query.specs.Reading.{max_nodes}
 use Rattle.query.specs.Packing.{packed_bytes}
 use Rattle.query.specs.Code.Writing.{overlay}
-use Rattle.rules.specs.declared.Packing.{Packing}
-use Rattle.rules.specs.declared.draft.Head.{Head}
-use Rattle.rules.specs.declared.draft.Body.{Body}
+use Rattle.rules.specs.Reply.{Packing, max_bytes, refused}
 use Rattle.rules.specs.Meaning.{max_terms}
-use Rattle.rules.specs.Reply.{max_bytes, refused}
-use Rattle.rules.specs.Code.Draft.{Nodes, add_word, onward}
+use Rattle.rules.specs.Code.Draft.{Head, Body, Nodes, add_word, onward}
 
 -- The bounds that the code's indices rest on.
 pub record Variables (h : Head) : Type 0 where

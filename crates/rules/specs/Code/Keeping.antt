@@ -9,12 +9,10 @@ use Rattle.query.specs.Reading.{max_nodes, max_constants}
 use Rattle.query.specs.Packing.{term_code, words}
 use Rattle.rules.specs.declared.mode.Mode.{Mode}
 use Rattle.rules.specs.declared.mode.Mode.TheVariants.{Out, Start, Letter, ColumnDue, Column, Closed, Colon, GoalDue, DenialN, DenialNo, DenialNot, Denial, Relation, TermDue, Ended, Subject, Spaced, Equals, OtherDue, Other, Done, Term as TermMode}
-use Rattle.rules.specs.declared.draft.Head.{Head}
-use Rattle.rules.specs.declared.draft.Body.{Body}
 use Rattle.rules.specs.Grammar.{several, Term, Goal}
 use Rattle.rules.specs.Meaning.{head, goals, term_variables, term_values, relations_in, variables_in, values_in, pooled, term_in, matrix, max_terms, max_number, max_value, crowded}
 use Rattle.rules.specs.Code.Automaton.{State, start, letter, column_due, column, closed, colon, goal_due, denial_n, denial_no, denial_not, denial, relation, term_due, term, ended, subject, spaced, equals, other_due, other, done}
-use Rattle.rules.specs.Code.Draft.{capped, Small}
+use Rattle.rules.specs.Code.Draft.{Head, Body, capped, Small}
 use Rattle.rules.specs.Code.Scan.{Draft, Goals}
 
 -- ---- the head

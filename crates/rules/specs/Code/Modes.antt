@@ -1,6 +1,8 @@
 -- The automaton's places as the code has them: what follows a byte, without what has been read.
 use Rattle.std.specs.Prelude.{ℕ, Bool, true, cond, List, [], ◌∷◌, get_or, eqb}
 use Rattle.rules.specs.declared.mode.Mode.{Mode}
+use Rattle.rules.specs.declared.mode.Effect.{Effect}
+use Rattle.rules.specs.declared.mode.Effect.TheVariants as effect
 use Rattle.rules.specs.declared.mode.Mode.TheVariants.{Out, Start, Letter, ColumnDue, Column, Closed, Colon, GoalDue, DenialN, DenialNo, DenialNot, Denial, Relation, TermDue, Term, Ended, Subject, Spaced, Equals, OtherDue, Other, Done}
 
 -- The mode beside the first of these bytes that is b.
@@ -61,6 +63,17 @@ effect_of Equals b = 0
 effect_of OtherDue b = 4
 effect_of Other b = 7
 effect_of Done b = 0
+
+-- The number of each effect that the code can name.
+abbrev pub effect_number : Effect → ℕ
+effect_number effect.Nothing = 0
+effect_number effect.Column = 1
+effect_number effect.Denied = 2
+effect_number effect.Subject = 3
+effect_number effect.Named = 4
+effect_number effect.Term = 5
+effect_number effect.Relation = 6
+effect_number effect.Equality = 7
 
 -- Whether a byte can do so: all but 0, 2 and 4 are of a number, so a digit of it must have been read.
 abbrev pub suits : ℕ → Bool → Bool

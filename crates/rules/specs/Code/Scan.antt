@@ -1,12 +1,10 @@
 -- The reader of a rule, byte by byte, as the code has it: each function's result. Definitions only; the laws are in Code/Scan/.
-use Rattle.std.specs.Prelude.{ℕ, ◌-◌, Bool, true, false, ◌&&◌, ◌||◌, cond, List, [], ◌∷◌, get_or, eqb, ltb}
+use Rattle.std.specs.Prelude.{ℕ, ◌-◌, Bool, true, false, ◌&&◌, ◌||◌, cond, List, [], ◌∷◌, get_or, eqb, ltb, Option, Some, None, unwrap_or}
 use Rattle.rules.specs.declared.mode.Mode.{Mode}
 use Rattle.rules.specs.declared.mode.Mode.TheVariants.{Out, Start}
-use Rattle.rules.specs.declared.draft.Head.{Head}
-use Rattle.rules.specs.declared.draft.Body.{Body}
-use Rattle.rules.specs.declared.scan.Reader.{Reader}
+use Rattle.rules.specs.declared.scan.Reader.{Reader as Place}
 use Rattle.rules.specs.Code.Modes.{next_mode, effect_of, suits}
-use Rattle.rules.specs.Code.Draft.{empty_head, empty_body, capped_more, put_column, body_of, put_term, put_relation, put_equality}
+use Rattle.rules.specs.Code.Draft.{Head, Body, empty_head, empty_body, capped_more, put_column, body_of, put_term, put_relation, put_equality}
 
 -- All that is kept of a rule beside its constants and nodes: where the reader stands, the head and the goals.
 pub record Draft : Type 0 where
@@ -93,8 +91,22 @@ draft_step d b cs ns = cond (ltb b 48 || ltb 57 b) (turn_step d b cs ns) (digit_
 
 -- ---- where the reader stands, without the head and the goals
 
+-- Its mode, the number being read, or 0, and whether a digit of it has been read.
+pub record Reader : Type 0 where
+  pub mode : Mode
+  pub number : ℕ
+  pub started : Bool
+
 abbrev pub reader_of : Mode → ℕ → Bool → Reader
 reader_of m n s = record { mode = m; number = n; started = s }
+
+-- The place that the code has.
+abbrev pub is_begun : Option ℕ → Bool
+is_begun None = false
+is_begun (Some n) = true
+
+abbrev pub reader_from : Place → Reader
+reader_from p = reader_of p.mode (unwrap_or p.number 0) (is_begun p.number)
 
 abbrev pub start_reader : Reader
 start_reader = reader_of Start 0 false

@@ -1,22 +1,20 @@
 -- How the code puts and removes a record. Definitions only; Change/Laws.antt shows that for a store in the layout it comes to the same as the replies of Change.
-use Rattle.std.specs.Prelude.{ℕ, suc, ◌+◌, ◌-◌, Bool, false, not, cond, List, [], ◌∷◌, ◌++◌, take, drop}
+use Rattle.std.specs.Prelude.{ℕ, suc, ◌+◌, ◌-◌, Bool, false, not, cond, List, [], ◌∷◌, ◌++◌, take, drop, Result, Ok, Err}
 use Rattle.causes.specs.Causes.{check, first_cause, when}
 use Rattle.tables.specs.declared.Record.{Record}
 use Rattle.tables.specs.declared.Store.{Store}
-use Rattle.tables.specs.declared.Spot.{Spot}
-use Rattle.tables.specs.declared.Changed.{Changed}
+use Rattle.tables.specs.Change.{Changed, reply, rank}
 use Rattle.tables.specs.Records.{record_below, same_record, fits, blank}
 use Rattle.tables.specs.Store.{capacity, places_of, held, has_room, of_places}
-use Rattle.tables.specs.Change.{reply, rank}
 
 -- Whether r stands at its place.
 abbrev pub found : Record → List Record → Bool
 found r [] = false
 found r (p ∷ ps) = cond (record_below p r) (found r ps) (same_record p r)
 
--- Whether r fits, its place, and whether it stands there.
-abbrev pub located : Store → Record → Spot
-located s r = record { fits = fits s.widths r; place = rank r (held s); held = found r (held s) }
+-- The place where r stands; as an error, where it would stand.
+abbrev pub located : Store → Record → Result ℕ ℕ
+located s r = cond (found r (held s)) (Ok (rank r (held s))) (Err (rank r (held s)))
 
 -- The places with r at place k, and the records from there on one place up; the last one falls out.
 abbrev pub raised : List Record → ℕ → Record → List Record

@@ -1,10 +1,8 @@
 -- How the code fills a store: one record after the other. Definitions only; Fill/Laws.antt shows that it comes to document 01's filling (`fill-collects`).
 use Rattle.std.specs.Prelude.{ℕ, not, cond, List, [], ◌∷◌, eqb, ltb}
-use Rattle.causes.specs.declared.Answer.{Answer}
-use Rattle.causes.specs.declared.Answer.TheVariants.{Done, Refused}
-use Rattle.causes.specs.Causes.{check, first_cause, when, widths_fit}
+use Rattle.causes.specs.Causes.{Answer, Done, Refused, check, first_cause, when, widths_fit}
 use Rattle.tables.specs.declared.Record.{Record}
-use Rattle.tables.specs.declared.Changed.{Changed}
+use Rattle.tables.specs.Change.{Changed}
 use Rattle.tables.specs.Store.{capacity, store_of}
 use Rattle.tables.specs.Fill.{refused_filling, unless_refused}
 use Rattle.tables.specs.Code.Change.{insertion}

@@ -9,6 +9,7 @@ use Rattle.query.specs.Decoding.{root}
 use Rattle.query.specs.Reading.{max_nodes}
 use Rattle.query.specs.Packing.{Ordered}
 use Rattle.query.specs.Accepted.{Accepted}
+use Rattle.verdict.specs.declared.form.Words.{Words}
 
 -- ---- what the parts of the verdict ask for
 
@@ -32,11 +33,36 @@ pub record IsForm (nodes : List ℕ) (n : ℕ) : Type 0 where
   pub formed : (i : ℕ) → i < n → malformed (get_or nodes i 0) ≡ false
   pub ordered : (i : ℕ) → i < n → Ordered nodes i (children (get_or nodes i 0))
 
+-- The same of a list of any length that has them.
+pub record IsFormIn (nodes : List ℕ) (n : ℕ) : Type 0 where
+  pub some_node : 1 ≤ n
+  pub few_nodes : n ≤ max_nodes
+  pub places : n ≤ length nodes
+  pub formed : (i : ℕ) → i < n → malformed (get_or nodes i 0) ≡ false
+  pub ordered : (i : ℕ) → i < n → Ordered nodes i (children (get_or nodes i 0))
+
 -- ---- the words so far, and what a node does to them
 
 -- The words so far: their number, and the array that holds them, with zeros after them.
 abbrev pub written : List ℕ → ℕ × List ℕ
 written xs = (length xs, padded max_nodes 0 xs)
+
+-- As the code has them.
+abbrev pub held : List ℕ → Words
+held xs = record { nodes = padded max_nodes 0 xs; count = length xs }
+
+abbrev pub words_in : Words → List ℕ
+words_in w = take w.count w.nodes
+
+-- Nothing but zeros stands after them.
+abbrev pub IsHeld : Words → Type 0
+IsHeld w = w ≡ held (words_in w)
+
+-- There is one at least, and room for one more.
+pub record HasRoom (w : Words) : Type 0 where
+  pub some_word : 1 ≤ w.count
+  pub room : w.count < max_nodes
+  pub zeros : IsHeld w
 
 abbrev pub last : List ℕ → ℕ
 last xs = get_or xs (length xs - 1) 0

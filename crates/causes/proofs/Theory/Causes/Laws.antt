@@ -2,12 +2,10 @@
 use Rattle.std.specs.Prelude.{ℕ, zero, suc, ◌+◌, ◌<◌, ◌≤◌, ◌≡◌, refl, ◌⊎◌, Bool, true, false, cond, not, get_or, T, leb, ltb, List, [], ◌∷◌, ◌++◌}
 use Rattle.std.proofs.Common.{add-one, arith, subst, ap, ◌∙◌, sym, inl, inr, leb→le}
 use Rattle.std.proofs.Math.Decide.{dec_lt}
-use Rattle.causes.specs.Causes.{place, widths_fit, Finding, clear, met, or_else, lowest, is_done, number, Check, check, first_cause, when, AllClear, numbered}
+use Rattle.causes.specs.Causes.{place, widths_fit, Finding, clear, met, or_else, lowest, is_done, number, Check, check, first_cause, when, AllClear, numbered, Answer, Done, Refused}
 use Rattle.calculus.proofs.Theory.Lists.Laws.{and-holds, all-of-getD}
 use Rattle.calculus.specs.Reflects.{Reflects, holds, fails}
 use Rattle.calculus.proofs.Theory.Reflects.Laws.{reflected, reflects-ltb}
-use Rattle.causes.specs.declared.Answer.{Answer}
-use Rattle.causes.specs.declared.Answer.TheVariants.{Done, Refused}
 
 before-or-last : (i n : ℕ) → i < suc n → (i < n) ⊎ (n ≡ i)
 before-or-last i n h = go (dec_lt i n)

@@ -4,25 +4,20 @@ use Rattle.std.proofs.Common.{arith, sym, ap, subst, ◌∙◌, inl, inr}
 use Rattle.std.proofs.Math.Path.{subst⁻¹}
 use Rattle.calculus.specs.Lists.{padded}
 use Rattle.calculus.specs.Rows.{Row, Result, endless, listed}
-use Rattle.causes.specs.declared.Answer.{Answer}
-use Rattle.causes.specs.declared.Answer.TheVariants.{Done, Refused}
-use Rattle.causes.specs.Causes.{first_cause, number, place}
+use Rattle.causes.specs.Causes.{Answer, Done, Refused, first_cause, number, place}
 use Rattle.causes.proofs.Theory.Causes.Laws.{refused-place}
 use Rattle.query.specs.declared.Query.{Query}
 use Rattle.query.specs.Reading.{max_nodes, max_constants, constants_of, nodes_of, pool}
 use Rattle.query.proofs.Theory.Accepted.Laws.{read_done, pool_of, reading-accepted}
-use Rattle.verdict.specs.declared.Verdict.{Verdict}
-use Rattle.verdict.specs.Verdict.{judged}
+use Rattle.verdict.specs.Verdict.{Verdict, judged}
 use Rattle.verdict.proofs.Theory.Form.Laws.{form-accepted}
 use Rattle.answer.specs.Reply.{front_bytes}
-use Rattle.packed.specs.declared.Listing.{Listing}
-use Rattle.packed.specs.Packed.{widths_in, query_in, query_read, input_checks, judged_reply, judged_of, result_in, list_checks, listing_reply, byte_listing_of}
+use Rattle.packed.specs.Packed.{Listing, widths_in, query_in, query_read, input_checks, judged_reply, judged_of, result_in, list_checks, listing_reply, byte_listing_of}
 use Rattle.packed.proofs.Theory.Packed.Laws.{query-accepted, input-few}
 use Rattle.packed.proofs.Theory.Packed.Places.{judged-place, listing-place, listing-refused}
 use Rattle.packed.proofs.Theory.Packed.Told.{rows_fit}
-use Rattle.rules.specs.declared.Packing.{Packing}
+use Rattle.rules.specs.Reply.{Packing, packing, PackReply}
 use Rattle.rules.proofs.Theory.Grammar.Laws.{parse}
-use Rattle.rules.specs.Reply.{packing, PackReply}
 use Rattle.rules.proofs.Theory.Reply.Laws.{Answered, packs, refuses, packing-answered}
 use Rattle.host.specs.Entry.{code, code_endless, answer_refusal, verdict_bytes, verdict_reply, verdict_entry, room_in, answer_reply, answer_entry, rule_refusal, rule_reply, RuleEntry}
 use Rattle.host.specs.Code.Entry.{Writable}

@@ -4,14 +4,11 @@ use Rattle.std.proofs.Common.{arith, sym, ap, ◌∙◌}
 use Rattle.std.proofs.Math.Path.{subst⁻¹}
 use Rattle.std.proofs.Math.Seq.{take-append_seam}
 use Rattle.calculus.specs.Sets.{union_of}
-use Rattle.causes.specs.declared.Answer.{Answer}
-use Rattle.causes.specs.declared.Answer.TheVariants.{Done, Refused}
-use Rattle.causes.specs.Causes.{first_cause}
+use Rattle.causes.specs.Causes.{Answer, Done, Refused, first_cause}
 use Rattle.calculus.specs.Rows.{numbers}
 use Rattle.answer.specs.Code.Listing.{cut}
 use Rattle.answer.proofs.Theory.Code.Listing.Cut.{cut-numbers}
-use Rattle.packed.specs.declared.Listing.{Listing}
-use Rattle.packed.specs.Packed.{query_read, result_in, list_checks, listing_of}
+use Rattle.packed.specs.Packed.{Listing, query_read, result_in, list_checks, listing_of}
 use Rattle.packed.proofs.Theory.Packed.Told.{columns_in, Told, told-refused, told-done, told-safe, told-columns, told-few-columns, told-endless, told-rows}
 use Rattle.lines.specs.Text.{room, line, word_refused, word_row, word_rows, word_endless, answer_text, head_text, reply_text, text_of}
 

@@ -1,6 +1,6 @@
 -- Laws of the packed input: what it comes to at each cause that the code meets in turn, and what an accepted input promises. What the list's reply tells is in
 -- Packed/Told.antt.
-use Rattle.std.specs.Prelude.{ℕ, ◌≤◌, ◌<◌, ◌^◌, ◌≡◌, refl, Bool, true, false, not, List, [], ◌∷◌, ◌++◌, length, get_or, T}
+use Rattle.std.specs.Prelude.{ℕ, ◌≤◌, ◌<◌, ◌^◌, ◌≡◌, refl, Bool, true, false, not, List, [], ◌∷◌, ◌++◌, length, get_or, T, Some}
 use Rattle.std.proofs.Common.{sym, ap, ◌∙◌}
 use Rattle.std.proofs.Math.Path.{subst⁻¹}
 use Rattle.calculus.specs.Lists.{padded}
@@ -8,12 +8,10 @@ use Rattle.calculus.specs.Order.{insert}
 use Rattle.calculus.proofs.Theory.Reflects.Laws.{reflects, confirmed-by, reflects-and, reflects-leb, reflects-T, reflects-true}
 use Rattle.calculus.specs.Generators.{columns, verdict, safe}
 use Rattle.calculus.specs.Rows.{Result, endless, listed}
-use Rattle.causes.specs.declared.Answer.{Answer}
-use Rattle.causes.specs.declared.Answer.TheVariants.{Done, Refused}
-use Rattle.causes.specs.Causes.{clear, met, Check, check, first_cause, when, widths_fit}
+use Rattle.causes.specs.Causes.{Answer, Done, Refused, clear, met, Check, check, first_cause, when, widths_fit}
 use Rattle.causes.proofs.Theory.Causes.Laws.{then-done, then-refused, first_done, later-done, first-passed}
 use Rattle.tables.specs.declared.Record.{Record}
-use Rattle.tables.specs.declared.Changed.{Changed}
+use Rattle.tables.specs.Change.{Changed}
 use Rattle.tables.specs.Records.{record_below}
 use Rattle.tables.proofs.Theory.Store.Laws.{reflects-layout}
 use Rattle.tables.specs.Fill.{unless_refused, fill_checks, fill_from, fill_reply}
@@ -28,9 +26,8 @@ use Rattle.verdict.specs.Verdict.{judged, refusal as verdict_refusal}
 use Rattle.answer.specs.Reply.{row_checks, Writing, reply_by}
 use Rattle.answer.specs.Code.Reply.{Answerable, evaluated_by}
 use Rattle.packed.specs.declared.part.Head.{Head}
-use Rattle.packed.specs.declared.Input.{Input}
+use Rattle.packed.specs.Code.Packed.{Input, extent_by, extent_of, extent_in, refusal, input_reply, input_of, listing_with}
 use Rattle.packed.specs.Packed.{head_length, head_in, widths_in, count_in, start, records_in, query_in, is_whole, record_checks, input_checks, store_in, query_read, judged_reply, judged_of, result_in, list_checks, declined, listing_reply, listing_in}
-use Rattle.packed.specs.Code.Packed.{extent_by, extent_of, refusal, input_reply, input_of, listing_with}
 
 -- ---- the parts
 
@@ -50,6 +47,10 @@ extent-whole bs = extent_by-whole (is_whole bs) (head_in bs)
 
 pub extent-head : (bs : List ℕ) → is_whole bs ≡ true → (extent_of bs).head ≡ head_in bs
 extent-head bs w = ap (λ b. (extent_by b (head_in bs)).head) w
+
+-- The same, by what the code hands back.
+pub extent-some : (bs : List ℕ) (h : Head) → extent_in (Some h) ≡ extent_of bs → (is_whole bs ≡ true) × (h ≡ head_in bs)
+extent-some bs h e = let w = sym (extent-whole bs) ∙ ap (λ x. x.whole) (sym e) in (w, ap (λ x. x.head) e ∙ extent-head bs w)
 
 -- What goes on where checks refuse nothing answers their first cause, or its own.
 unless-cause : (cs ds : List Check) (c : Changed) → c.answer ≡ first_cause ds → (unless_refused (first_cause cs) c).answer ≡ first_cause (cs ++ ds)

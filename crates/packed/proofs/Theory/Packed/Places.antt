@@ -4,9 +4,7 @@ use Rattle.std.proofs.Common.{arith}
 use Rattle.std.proofs.Math.Path.{subst⁻¹}
 use Rattle.calculus.specs.Order.{insert}
 use Rattle.calculus.specs.Generators.{columns}
-use Rattle.causes.specs.declared.Answer.{Answer}
-use Rattle.causes.specs.declared.Answer.TheVariants.{Done, Refused}
-use Rattle.causes.specs.Causes.{check, first_cause, when, place}
+use Rattle.causes.specs.Causes.{Answer, Done, Refused, check, first_cause, when, place}
 use Rattle.causes.proofs.Theory.Causes.Laws.{place-then, place-when, refused-place}
 use Rattle.tables.specs.declared.Record.{Record}
 use Rattle.tables.specs.Records.{record_below, fits}
@@ -15,8 +13,7 @@ use Rattle.tables.specs.Change.{is_held}
 use Rattle.query.specs.Reading.{max_nodes, read_checks, formula}
 use Rattle.query.proofs.Theory.Reading.Laws.{read-place}
 use Rattle.answer.specs.Reply.{Writing, exceeds, row_checks}
-use Rattle.packed.specs.declared.Listing.{Listing}
-use Rattle.packed.specs.Packed.{widths_in, query_in, records_in, is_whole, record_checks, input_checks, store_in, query_read, judged_reply, judged_of, result_in, list_checks, listing_reply, listing_in}
+use Rattle.packed.specs.Packed.{Listing, widths_in, query_in, records_in, is_whole, record_checks, input_checks, store_in, query_read, judged_reply, judged_of, result_in, list_checks, listing_reply, listing_in}
 
 record-place : (ws : List ℕ) (ps rs : List Record) → place (first_cause (record_checks ws ps rs)) < max_nodes
 record-place ws ps [] = omega arith

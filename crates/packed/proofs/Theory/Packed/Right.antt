@@ -13,8 +13,7 @@ use Rattle.calculus.specs.Generators.{columns, verdict, safe}
 use Rattle.calculus.proofs.Theory.SafeRange.Result.{fv-columns, safe-reflects, safe-values, safe-not-endless}
 use Rattle.calculus.specs.Rows.{Row, Result, endless, listed}
 use Rattle.calculus.proofs.Theory.Evaluation.Laws.{within-or-beyond, endless-iff, not-endless, result-right}
-use Rattle.causes.specs.declared.Answer.TheVariants.{Done}
-use Rattle.causes.specs.Causes.{first_cause}
+use Rattle.causes.specs.Causes.{Done, first_cause}
 use Rattle.tables.specs.declared.Record.{Record}
 use Rattle.tables.specs.Records.{values_of, width, fact_of}
 use Rattle.tables.specs.Store.{facts}

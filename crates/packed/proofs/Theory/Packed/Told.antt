@@ -8,16 +8,13 @@ use Rattle.calculus.specs.Generators.{columns, verdict, safe}
 use Rattle.calculus.proofs.Theory.SafeRange.Result.{fv-columns}
 use Rattle.calculus.specs.Rows.{Row, row_below, Result, endless, listed, Right, numbers, Width}
 use Rattle.calculus.proofs.Theory.Evaluation.Laws.{result-right}
-use Rattle.causes.specs.declared.Answer.{Answer}
-use Rattle.causes.specs.declared.Answer.TheVariants.{Done, Refused}
-use Rattle.causes.specs.Causes.{Check, first_cause}
+use Rattle.causes.specs.Causes.{Answer, Done, Refused, Check, first_cause}
 use Rattle.causes.proofs.Theory.Causes.Laws.{first_done, later-done, first-clear}
 use Rattle.tables.specs.Store.{facts}
 use Rattle.query.specs.declared.Query.{Query}
 use Rattle.query.specs.Reading.{pool, columns_of, formula}
 use Rattle.answer.specs.Reply.{exceeds, row_checks, front, worked}
-use Rattle.packed.specs.declared.Listing.{Listing}
-use Rattle.packed.specs.Packed.{input_checks, store_in, query_read, result_in, list_checks, listing_reply, listing_of}
+use Rattle.packed.specs.Packed.{Listing, input_checks, store_in, query_read, result_in, list_checks, declined, listing_reply, listing_of}
 use Rattle.packed.proofs.Theory.Packed.Laws.{input-few, listing-by-cause}
 
 -- The columns of the query of an input.
@@ -33,6 +30,10 @@ pub record Told (bs buffer : List ℕ) (l : Listing) (after : List ℕ) : Type 0
   pub wide : Width (length (columns_in bs)) rows
   pub fitting : length rows * length (columns_in bs) ≤ length buffer
   pub few : length rows ≤ length buffer + 1
+
+-- A refusal comes with nothing else.
+pub declined-bare : (n p : ℕ) → ((declined n p).answer ≡ Refused n p) × ((declined n p).safe ≡ false) × ((declined n p).columns ≡ columns_of []) × ((declined n p).endless ≡ false) × ((declined n p).rows ≡ 0)
+declined-bare n p = (refl, refl, refl, refl, refl)
 
 -- ---- rows that fit are few
 

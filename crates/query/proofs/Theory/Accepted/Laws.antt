@@ -14,9 +14,7 @@ use Rattle.calculus.proofs.Theory.Reflects.Laws.{reflects-T, reflects-false, ref
 use Rattle.calculus.specs.Formula.{Term, var, con, Fmla, rel, size}
 use Rattle.calculus.specs.Satisfaction.{Pool}
 use Rattle.calculus.specs.Generators.{columns}
-use Rattle.causes.specs.declared.Answer.{Answer}
-use Rattle.causes.specs.declared.Answer.TheVariants.{Done, Refused}
-use Rattle.causes.specs.Causes.{first_cause, widths_fit, AllClear}
+use Rattle.causes.specs.Causes.{Answer, Done, Refused, first_cause, widths_fit, AllClear}
 use Rattle.causes.proofs.Theory.Causes.Laws.{width_fits, first_done, first_cause-done, when-clear, lowest-clear}
 use Rattle.query.specs.declared.Query.{Query}
 use Rattle.query.specs.Nodes.{relation, term_count, terms, variable, equal_term, left, right, under, children, uses, malformed, misplaced, is_stray, strays, mismatched}

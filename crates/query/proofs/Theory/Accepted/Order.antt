@@ -9,8 +9,7 @@ use Rattle.calculus.specs.Sets.{any_of}
 use Rattle.calculus.proofs.Theory.Lists.Laws.{or-fails}
 use Rattle.calculus.proofs.Theory.Reflects.Laws.{reflects-eqb}
 use Rattle.calculus.specs.Formula.{Term, Fmla, size}
-use Rattle.causes.specs.declared.Answer.TheVariants.{Done}
-use Rattle.causes.specs.Causes.{widths_fit}
+use Rattle.causes.specs.Causes.{Done, widths_fit}
 use Rattle.causes.proofs.Theory.Causes.Laws.{width_fits}
 use Rattle.query.specs.Nodes.{kind, relation, term_count, terms, variable, equal_term, left, right, under, nonzero, malformed, mismatched, truth_rest, record_rest, equality_rest, not_rest, join_rest, exists_rest, record_word, equality_word, not_word, join_word, exists_word}
 use Rattle.query.proofs.Theory.Nodes.Words.{term_at, truth_of-fields, record-of-fields, equality-of-fields, not-of-fields, join-of-fields, exists-of-fields, equal_term-small, term_at-small}

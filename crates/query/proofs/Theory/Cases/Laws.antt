@@ -13,7 +13,7 @@ use Rattle.calculus.proofs.Theory.SafeRange.Result.{safe-reflects, fv-columns}
 use Rattle.calculus.specs.Rows.{Row, Result, endless, listed, Right}
 use Rattle.calculus.specs.Evaluation.{query_result}
 use Rattle.calculus.proofs.Theory.Evaluation.Laws.{result-right}
-use Rattle.causes.specs.declared.Answer.TheVariants.{Done}
+use Rattle.causes.specs.Causes.{Done}
 use Rattle.causes.proofs.Theory.Causes.Laws.{reflects-done}
 use Rattle.query.specs.Packing.{pack}
 use Rattle.query.specs.Cases.{read_case, formula_of, pool_of, Case, cases, CaseRight}

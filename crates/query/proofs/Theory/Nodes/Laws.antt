@@ -1,11 +1,11 @@
 -- Laws of packed nodes: what a node has by its kind, and how often a node is a child.
-use Rattle.std.specs.Prelude.{ℕ, zero, suc, ◌+◌, ◌*◌, ◌-◌, ◌≤◌, ◌<◌, ◌≡◌, refl, ◌⊎◌, ◌≢◌, Bool, true, false, cond, List, [], ◌∷◌, ◌++◌, length, get_or, take, set, eqb}
+use Rattle.std.specs.Prelude.{ℕ, zero, suc, ◌+◌, ◌*◌, ◌≤◌, ◌<◌, ◌≡◌, refl, ◌⊎◌, ◌≢◌, Bool, true, false, cond, List, [], ◌∷◌, ◌++◌, length, get_or, take, set, eqb, ◌-◌}
 use Rattle.std.proofs.Math.Decide.{dec_lt, ℕ_discrete}
 use Rattle.std.proofs.Common.{zero-add, add-zero, add_assoc, add-one, arith, sym, ap, ◌∙◌, inl, inr, ⊎_elim, append-nil, append_assoc, length-set, take-suc, length-take-le, get_or-set_same, get_or-set_other, eq-eqb, ne_eqb}
 use Rattle.calculus.specs.Sets.{In, here, there, union_of}
 use Rattle.calculus.specs.Lists.{tabulate}
 use Rattle.calculus.proofs.Theory.Lists.Laws.{length-tabulate, get_d_tabulate, tabulate-of}
-use Rattle.query.specs.Nodes.{kind, by_kind, malformed, left, right, under, children, term_count, terms, equal_term, used_terms, occurrences, uses}
+use Rattle.query.specs.Nodes.{kind, left, right, under, children, occurrences, uses, malformed, term_count, terms, equal_term, used_terms, by_kind}
 use Rattle.query.specs.Code.Judging.{counted_with}
 use Rattle.query.specs.Reading.{max_nodes}
 
@@ -31,10 +31,6 @@ children-two w h l = ⊎_elim (λ e. rw e) (λ e. rw e) (two-or (kind w) h l)
 pub both-children : (w : ℕ) → (kind w ≡ 4) ⊎ (kind w ≡ 5) → In (left w) (children w) × In (right w) (children w)
 both-children w k = ⊎_elim (λ e. rw e (here refl, there (here refl))) (λ e. rw e (here refl, there (here refl))) k
 
--- A kind past 6.
-pub malformed-kind : (w : ℕ) → 6 ≤ kind w → kind w ≢ 6 → malformed w ≡ true
-malformed-kind w h n = let e : kind w ≡ suc (suc (suc (suc (suc (suc (suc (kind w - 7))))))) = omega arith in rw e
-
 module _ {A : Type 0} where
   -- Neither a not, an and, an or, nor an exists.
   leaf-at : (x y z u none : A) (k : ℕ) → k ≢ 3 → k ≢ 4 → k ≢ 5 → k ≢ 6 → get_or (none ∷ none ∷ none ∷ x ∷ y ∷ z ∷ u ∷ []) k none ≡ none
@@ -47,36 +43,8 @@ module _ {A : Type 0} where
   leaf-at x y z u none (suc (suc (suc (suc (suc (suc zero)))))) a b c d = absurd (d refl)
   leaf-at x y z u none (suc (suc (suc (suc (suc (suc (suc k))))))) a b c d = refl
 
-  -- Neither a record nor an equality.
-  termless-at : (x y none : A) (k : ℕ) → k ≢ 1 → k ≢ 2 → get_or (none ∷ x ∷ y ∷ none ∷ none ∷ none ∷ none ∷ []) k none ≡ none
-  termless-at x y none zero a b = refl
-  termless-at x y none (suc zero) a b = absurd (a refl)
-  termless-at x y none (suc (suc zero)) a b = absurd (b refl)
-  termless-at x y none (suc (suc (suc zero))) a b = refl
-  termless-at x y none (suc (suc (suc (suc zero)))) a b = refl
-  termless-at x y none (suc (suc (suc (suc (suc zero))))) a b = refl
-  termless-at x y none (suc (suc (suc (suc (suc (suc zero)))))) a b = refl
-  termless-at x y none (suc (suc (suc (suc (suc (suc (suc k))))))) a b = refl
-
-  -- No record.
-  pub not-record : (x none : A) (w : ℕ) → kind w ≢ 1 → by_kind none x none none none none none none w ≡ none
-  not-record x none w a = go (kind w) a
-    where
-      go : (k : ℕ) → k ≢ 1 → get_or (none ∷ x ∷ none ∷ none ∷ none ∷ none ∷ none ∷ []) k none ≡ none
-      go zero a = refl
-      go (suc zero) a = absurd (a refl)
-      go (suc (suc zero)) a = refl
-      go (suc (suc (suc zero))) a = refl
-      go (suc (suc (suc (suc zero)))) a = refl
-      go (suc (suc (suc (suc (suc zero))))) a = refl
-      go (suc (suc (suc (suc (suc (suc zero)))))) a = refl
-      go (suc (suc (suc (suc (suc (suc (suc k))))))) a = refl
-
 pub children-none : (w : ℕ) → kind w ≢ 3 → kind w ≢ 4 → kind w ≢ 5 → kind w ≢ 6 → children w ≡ []
 children-none w = leaf-at (left w ∷ []) (left w ∷ right w ∷ []) (left w ∷ right w ∷ []) (under w ∷ []) [] (kind w)
-
-pub terms-none : (w : ℕ) → kind w ≢ 1 → kind w ≢ 2 → used_terms w ≡ []
-terms-none w = termless-at (take (term_count w) (terms w)) (equal_term w ∷ []) [] (kind w)
 
 children-few : (w : ℕ) → length (children w) ≤ 2
 children-few w = go (left w) (right w) (under w) (kind w)
@@ -149,9 +117,6 @@ one-more-at counts x c h = go (ℕ_discrete c x)
 one-more-length : (counts : List ℕ) → length counts ≡ max_nodes → (x : ℕ) → length (one_more counts x) ≡ max_nodes
 one-more-length counts l x = length-set counts x (get_or counts x 0 + 1) ∙ l
 
-pub one-more-fits : (counts : List ℕ) → length counts ≡ max_nodes → (x y : ℕ) → x < max_nodes → get_or counts y 0 < 254 → get_or (one_more counts x) y 0 < 255
-one-more-fits counts l x y h m = omega (arith, one-more-at counts x y (omega arith), occurrences-few y (x ∷ []))
-
 -- The code counts the children of a node one by one.
 module _ (counts : List ℕ) (l : length counts ≡ max_nodes) (w : ℕ) where
   counted-as : {xs : List ℕ} → children w ≡ xs → tabulate (with_children counts xs) max_nodes ≡ counted_with counts w
@@ -169,3 +134,42 @@ module _ (counts : List ℕ) (l : length counts ≡ max_nodes) (w : ℕ) where
       tabulate-of (with_children counts (x ∷ y ∷ [])) (one_more after y) max_nodes 0 (one-more-length after m y)
       (λ c i. one-more-at after y c (omega arith) ∙ ap (λ (n : ℕ). n + occurrences c (y ∷ [])) (one-more-at counts x c (omega arith)) ∙ add_assoc (get_or counts c 0) (occurrences c (x ∷ [])) (occurrences c (y ∷ [])) ∙ ap (λ (n : ℕ). get_or counts c 0 + n) (sym (occurrences-append c (x ∷ []) (y ∷ []))))
       ∙ counted-as e
+
+-- ---- laws that stand as they stood
+
+-- A kind past 6.
+pub malformed-kind : (w : ℕ) → 6 ≤ kind w → kind w ≢ 6 → malformed w ≡ true
+malformed-kind w h n = let e : kind w ≡ suc (suc (suc (suc (suc (suc (suc (kind w - 7))))))) = omega arith in rw e
+
+module _ {A : Type 0} where
+  -- Neither a record nor an equality.
+  termless-at : (x y none : A) (k : ℕ) → k ≢ 1 → k ≢ 2 → get_or (none ∷ x ∷ y ∷ none ∷ none ∷ none ∷ none ∷ []) k none ≡ none
+  termless-at x y none zero a b = refl
+  termless-at x y none (suc zero) a b = absurd (a refl)
+  termless-at x y none (suc (suc zero)) a b = absurd (b refl)
+  termless-at x y none (suc (suc (suc zero))) a b = refl
+  termless-at x y none (suc (suc (suc (suc zero)))) a b = refl
+  termless-at x y none (suc (suc (suc (suc (suc zero))))) a b = refl
+  termless-at x y none (suc (suc (suc (suc (suc (suc zero)))))) a b = refl
+  termless-at x y none (suc (suc (suc (suc (suc (suc (suc k))))))) a b = refl
+
+pub terms-none : (w : ℕ) → kind w ≢ 1 → kind w ≢ 2 → used_terms w ≡ []
+terms-none w = termless-at (take (term_count w) (terms w)) (equal_term w ∷ []) [] (kind w)
+
+pub one-more-fits : (counts : List ℕ) → length counts ≡ max_nodes → (x y : ℕ) → x < max_nodes → get_or counts y 0 < 254 → get_or (one_more counts x) y 0 < 255
+one-more-fits counts l x y h m = omega (arith, one-more-at counts x y (omega arith), occurrences-few y (x ∷ []))
+
+module _ {A : Type 0} where
+  -- No record.
+  pub not-record : (x none : A) (w : ℕ) → kind w ≢ 1 → by_kind none x none none none none none none w ≡ none
+  not-record x none w a = go (kind w) a
+    where
+      go : (k : ℕ) → k ≢ 1 → get_or (none ∷ x ∷ none ∷ none ∷ none ∷ none ∷ none ∷ []) k none ≡ none
+      go zero a = refl
+      go (suc zero) a = absurd (a refl)
+      go (suc (suc zero)) a = refl
+      go (suc (suc (suc zero))) a = refl
+      go (suc (suc (suc (suc zero)))) a = refl
+      go (suc (suc (suc (suc (suc zero))))) a = refl
+      go (suc (suc (suc (suc (suc (suc zero)))))) a = refl
+      go (suc (suc (suc (suc (suc (suc (suc k))))))) a = refl

@@ -10,9 +10,7 @@ use Rattle.calculus.proofs.Theory.Lists.Laws.{place_of, in_take}
 use Rattle.calculus.specs.Formula.{Term, Fmla, truth, rel, eq, neg, conj, disj, exists, size}
 use Rattle.calculus.specs.Satisfaction.{Pool}
 use Rattle.calculus.specs.Generators.{columns}
-use Rattle.causes.specs.Causes.{Finding, clear, met, check, lowest, first_cause, number, widths_fit}
-use Rattle.causes.specs.declared.Answer.{Answer}
-use Rattle.causes.specs.declared.Answer.TheVariants.{Done, Refused}
+use Rattle.causes.specs.Causes.{Finding, clear, met, check, lowest, first_cause, number, widths_fit, Answer, Done, Refused}
 use Rattle.causes.proofs.Theory.Causes.Laws.{width_fits, lowest-all-clear}
 use Rattle.query.specs.Nodes.{mismatched, truth_word, record_word, equality_word, not_word, join_word, exists_word}
 use Rattle.query.specs.Decoding.{root}

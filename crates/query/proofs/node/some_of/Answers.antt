@@ -1,18 +1,11 @@
--- `query::node::some_of` meets its contract. A test that is true decides; where the count ends, none of those before it was.
-use native.Mathlib.Omega.{arith}
-use mathlib.Core.Path.{sym}
-use mathlib.Core.Bool.{false}
-use mathlib.Core.List.{[], ◌∷◌}
-use Rattle.calculus.proofs.Theory.Lists.Laws.{any-take-at}
+-- `query::node::some_of` meets its contract.
+use Rattle.std.proofs.Common.{rules, tests, ◌≡◌, Bool, true, false, List, [], ◌∷◌, take}
+use Rattle.std.proofs.lemmas.Iterator.{cases_from_any, YieldsList-from_slice, YieldsList-from_take}
+use Rattle.calculus.proofs.Theory.Chains.{any-met}
 use Rattle.query.specs.Code.Fields.{itself}
 use Rattle.query.proofs.node.some_of.Goals as goal
 
-pub returns-then-b : goal.returns-then-b
-returns-then-b c =
-    let x = c.args in
-    sym (any-take-at itself false (x.a ∷ x.b ∷ x.c ∷ x.d ∷ []) x.count 1 (omega arith) (omega arith) c.if-b.true)
-
-pub returns-then-c : goal.returns-then-c
-returns-then-c c =
-    let x = c.args in
-    sym (any-take-at itself false (x.a ∷ x.b ∷ x.c ∷ x.d ∷ []) x.count 2 (omega arith) (omega arith) c.if-c.true)
+pub returns : goal.returns
+returns c =
+    let x = c.args in let ts : List Bool = x.a ∷ x.b ∷ x.c ∷ x.d ∷ [] in
+    any-met itself (take x.count ts) c.any.result (cases_from_any _ _ c.any.result (λ b. b ≡ true) (λ b. b ≡ false) c.any.ensures.ran (YieldsList-from_take x.count (YieldsList-from_slice ts cc) cc) (λ b q k. search (rules, tests)) (λ b q k. search (rules, tests)))

@@ -9,8 +9,7 @@ use Rattle.calculus.proofs.Theory.Sets.Laws.{from-map, in-union}
 use Rattle.calculus.specs.Formula.{rel, size, Term as FmlaTerm}
 use Rattle.calculus.specs.Satisfaction.{Pool}
 use Rattle.calculus.specs.Generators.{columns}
-use Rattle.causes.specs.Causes.{number, widths_fit}
-use Rattle.causes.specs.declared.Answer.TheVariants.{Done}
+use Rattle.causes.specs.Causes.{number, widths_fit, Done}
 use Rattle.query.specs.Reading.{max_nodes, max_constants, max_columns, query_of, columns_of, read_of, formula, pool as pool-in}
 use Rattle.query.specs.Decoding.{root}
 use Rattle.query.specs.Packing.{words, TermFits, var_fits, con_fits, Fits, rel_fits, eq_fits, neg_fits, conj_fits, exists_fits, Packable}

@@ -8,9 +8,8 @@ use Rattle.calculus.proofs.Theory.Reflects.Laws.{reflects-T, reflects-false}
 use Rattle.calculus.specs.Formula.{Fmla, conj}
 use Rattle.calculus.specs.Satisfaction.{Pool}
 use Rattle.calculus.specs.Generators.{columns}
-use Rattle.causes.specs.Causes.{Finding, clear, met, check, when, lowest, first_cause, number, widths_fit}
+use Rattle.causes.specs.Causes.{Finding, clear, met, check, when, lowest, first_cause, number, widths_fit, Done}
 use Rattle.causes.proofs.Theory.Causes.Laws.{numbered-done}
-use Rattle.causes.specs.declared.Answer.TheVariants.{Done}
 use Rattle.query.specs.Reading.{max_columns, column_checks, read_checks, read_reply, read_of, formula, pool as pool-in}
 use Rattle.query.specs.Nodes.{mismatched}
 use Rattle.query.specs.Decoding.{root}

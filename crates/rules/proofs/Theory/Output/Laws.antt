@@ -3,11 +3,10 @@ use Rattle.std.specs.Prelude.{ℕ, ◌≤◌, ◌<◌, ◌^◌, ◌≡◌, List,
 use Rattle.std.proofs.Common.{arith, sym, ap, ◌∙◌, append_assoc}
 use Rattle.calculus.specs.Decimal.{digits}
 use Rattle.calculus.proofs.Theory.Decimal.Laws.{digits-enough}
-use Rattle.causes.specs.declared.Answer.TheVariants.{Done, Refused}
+use Rattle.causes.specs.Causes.{Done, Refused}
 use Rattle.query.specs.Code.Writing.{wrote}
 use Rattle.query.proofs.Theory.Code.Writing.Laws.{wrote-end, wrote-front}
-use Rattle.rules.specs.declared.Packing.{Packing}
-use Rattle.rules.specs.Reply.{PackReply}
+use Rattle.rules.specs.Reply.{Packing, PackReply}
 use Rattle.rules.specs.Output.{word_refused, refusal_line, output, rule_output, printed, PrintReply}
 
 -- ---- the line of a refusal

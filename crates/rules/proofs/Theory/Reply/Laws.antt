@@ -9,11 +9,10 @@ use Rattle.calculus.specs.Formula.{Fmla}
 use Rattle.calculus.specs.Satisfaction.{Pool}
 use Rattle.calculus.specs.Generators.{columns}
 use Rattle.calculus.specs.Rows.{RowSat}
-use Rattle.causes.specs.declared.Answer.TheVariants.{Done, Refused}
+use Rattle.causes.specs.Causes.{Done, Refused}
 use Rattle.query.proofs.Theory.Packing.Laws.{size-positive}
-use Rattle.query.specs.declared.Reading.{Reading}
-use Rattle.query.specs.Reading.{read_of, refusal}
-use Rattle.rules.specs.declared.Packing.{Packing}
+use Rattle.query.specs.Reading.{Reading, read_of, refusal}
+use Rattle.rules.specs.Reply.{Packing, max_bytes, bytes_of, refused, packed, packing, reading, PackReply, ReadReply, Means, rule_packing}
 use Rattle.rules.specs.Grammar.{Rule, written, Leaves, Parse, parsed, outside}
 use Rattle.rules.proofs.Theory.Grammar.Laws.{written_one, leaves-one, stopped-leaves, stopped-no-rule, early-leaves, early-no-rule, parse}
 use Rattle.rules.specs.Meaning.{head, RuleRow, formula_of, overstepped}
@@ -22,7 +21,6 @@ use Rattle.rules.proofs.Theory.Meaning.Rows.{rule-row}
 use Rattle.rules.proofs.Theory.Meaning.Packing.{bytes-short, length-bytes-of, query-constants, query-formula, rule-accepted}
 use Rattle.rules.specs.Code.Automaton.{State, start, done, step, run}
 use Rattle.rules.proofs.Theory.Code.Automaton.Spelling.{run-spelled}
-use Rattle.rules.specs.Reply.{max_bytes, bytes_of, refused, packed, packing, reading, PackReply, ReadReply, Means, rule_packing}
 
 -- ---- what packing answers
 

@@ -5,23 +5,20 @@ use Rattle.std.proofs.Common.{arith, sym, ap, subst, ◌∙◌, true≢false, lt
 use Rattle.std.proofs.Math.Path.{subst⁻¹}
 use Rattle.calculus.specs.Generators.{columns}
 use Rattle.calculus.specs.Rows.{Result}
-use Rattle.causes.specs.declared.Answer.{Answer}
-use Rattle.causes.specs.declared.Answer.TheVariants.{Done, Refused}
-use Rattle.causes.specs.Causes.{Check, first_cause, is_done, number, numbered}
+use Rattle.causes.specs.Causes.{Answer, Done, Refused, Check, first_cause, is_done, number, numbered}
 use Rattle.causes.proofs.Theory.Causes.Laws.{then-done, then-refused, first_done, later-done, first-passed, numbered-done}
 use Rattle.tables.specs.declared.Store.{Store}
 use Rattle.tables.specs.Store.{held, judgement}
 use Rattle.query.specs.Reading.{formula}
 use Rattle.answer.specs.Reply.{result_of, query_read}
 use Rattle.standing.specs.declared.View.{View}
-use Rattle.standing.specs.declared.Change.{Change}
+use Rattle.standing.specs.Change.{Change, joining, leaving, begin_checks, refusal, turn_checks, turn_reply, store_after, ready_checks, change_of}
 use Rattle.standing.specs.View.{max_rows, rows_in, kept, suits}
 use Rattle.standing.proofs.Theory.View.Difference.{only_in-fewer}
 use Rattle.standing.proofs.Theory.View.Layout.{suited}
 use Rattle.standing.specs.Checks.{Action, put, removal, view_checks, record_checks, is_over}
 use Rattle.standing.proofs.Theory.Change.Stores.{after-judged}
 use Rattle.standing.proofs.Theory.Change.Turn.{report-clear}
-use Rattle.standing.specs.Change.{joining, leaving, begin_checks, refusal, turn_checks, turn_reply, store_after, ready_checks, change_of}
 use Rattle.standing.specs.Code.Change.{maintained}
 
 -- At most `max_rows` rows joined, and at most as many left.

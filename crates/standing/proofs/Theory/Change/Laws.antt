@@ -5,15 +5,12 @@ use Rattle.std.proofs.Math.Path.{subst⁻¹}
 use Rattle.std.proofs.Math.Seq.{take-append_seam}
 use Rattle.calculus.specs.Generators.{columns}
 use Rattle.calculus.specs.Rows.{Result}
-use Rattle.causes.specs.declared.Answer.{Answer}
-use Rattle.causes.specs.declared.Answer.TheVariants.{Done, Refused}
-use Rattle.causes.specs.Causes.{check, first_cause, when}
+use Rattle.causes.specs.Causes.{Answer, Done, Refused, check, first_cause, when}
 use Rattle.causes.proofs.Theory.Causes.Laws.{then-done, then-refused, first_done, later-done}
 use Rattle.tables.specs.declared.Store.{Store}
 use Rattle.tables.specs.Store.{store_checks, judgement}
 use Rattle.tables.proofs.Theory.Store.Laws.{judged-layout}
-use Rattle.query.specs.declared.Reading.{Reading}
-use Rattle.query.specs.Reading.{max_columns, constants_of, nodes_of, read_checks, refusal, read_reply, formula, columns_of, read_of, variables_in}
+use Rattle.query.specs.Reading.{Reading, max_columns, constants_of, nodes_of, read_checks, refusal, read_reply, formula, columns_of, read_of, variables_in}
 use Rattle.query.specs.Accepted.{Accepted}
 use Rattle.query.proofs.Theory.Accepted.Laws.{reply-answer, read-few, read-columns, reading-accepted}
 use Rattle.answer.specs.Reply.{result_of, query_read}
@@ -35,10 +32,6 @@ module _ (s : Store) (bs : List ℕ) where
   -- Its answer is the first of the causes 1 to 10.
   pub begun-cause : (a : Answer) → (begun s bs).answer ≡ a → first_cause (begin_checks s bs) ≡ a
   begun-cause a e = sym (reply-answer (first_cause (begin_checks s bs)) (constants_of bs) (nodes_of bs)) ∙ e
-
-  -- The store is refused.
-  pub begun-refused : (n p : ℕ) → judgement s ≡ Refused n p → refusal n p ≡ begun s bs
-  begun-refused n p e = ap replied (sym (then-refused (store_checks s) (read_checks s.widths bs) n p e))
 
   -- Where the store meets no cause, the query decides.
   pub begun-reading : judgement s ≡ Done → read_of s.widths bs ≡ begun s bs
@@ -139,3 +132,14 @@ module _ (s : Store) (bs : List ℕ) where
 
     pub opened-done : (current result-found).over ≡ false → opened_of s bs ≡ opening_reply Done (columns (formula (query_read s bs))) result-found
     opened-done o = opened-by Done (rows-decide false o)
+
+-- ---- laws that stand as they stood
+
+module _ (s : Store) (bs : List ℕ) where
+  -- The reply by the first cause met.
+  abbrev replied-as : Answer → Reading
+  replied-as a = read_reply a (constants_of bs) (nodes_of bs)
+
+  -- The store is refused.
+  pub begun-refused : (n p : ℕ) → judgement s ≡ Refused n p → refusal n p ≡ begun s bs
+  begun-refused n p e = ap replied-as (sym (then-refused (store_checks s) (read_checks s.widths bs) n p e))

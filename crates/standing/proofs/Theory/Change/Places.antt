@@ -4,9 +4,7 @@ use Rattle.std.proofs.Common.{arith}
 use Rattle.calculus.specs.Sets.{any_of}
 use Rattle.calculus.specs.Generators.{columns}
 use Rattle.calculus.specs.Rows.{Result}
-use Rattle.causes.specs.declared.Answer.{Answer}
-use Rattle.causes.specs.declared.Answer.TheVariants.{Done, Refused}
-use Rattle.causes.specs.Causes.{Check, check, first_cause, when, place}
+use Rattle.causes.specs.Causes.{Answer, Done, Refused, Check, check, first_cause, when, place}
 use Rattle.causes.proofs.Theory.Causes.Laws.{place-then, place-when}
 use Rattle.tables.specs.declared.Record.{Record}
 use Rattle.tables.specs.declared.Store.{Store}

@@ -3,14 +3,12 @@
 use Rattle.std.specs.Prelude.{◌≡◌, not, List, [], ◌∷◌, ◌++◌, T}
 use Rattle.std.proofs.Common.{ap, subst, ◌∙◌}
 use Rattle.calculus.proofs.Theory.Reflects.Laws.{reflects-T, reflects-true}
-use Rattle.causes.specs.declared.Answer.TheVariants.{Done}
-use Rattle.causes.specs.Causes.{Check, check, first_cause, when, widths_fit}
+use Rattle.causes.specs.Causes.{Done, Check, check, first_cause, when, widths_fit}
 use Rattle.causes.proofs.Theory.Causes.Laws.{then-done}
 use Rattle.tables.specs.declared.Store.{Store}
-use Rattle.tables.specs.declared.Changed.{Changed}
+use Rattle.tables.specs.Change.{Changed, reply, put_reply, removal_reply}
 use Rattle.tables.specs.Store.{held, store_checks, judgement, Layout}
 use Rattle.tables.proofs.Theory.Store.Laws.{reflects-layout, judged-layout}
-use Rattle.tables.specs.Change.{reply, put_reply, removal_reply}
 use Rattle.tables.proofs.Theory.Change.Laws.{insertion-put, deletion-removal, put-layout, put-held, removal-layout, removal-held}
 use Rattle.standing.specs.Checks.{Action, put, removal, record_checks, records_after}
 use Rattle.standing.specs.Change.{store_after}

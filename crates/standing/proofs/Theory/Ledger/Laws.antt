@@ -14,9 +14,7 @@ use Rattle.calculus.specs.Rows.{Row, row_below, Result, endless, listed, Right, 
 use Rattle.calculus.proofs.Theory.Rows.Laws.{change-counts}
 use Rattle.calculus.specs.Evaluation.{query_result}
 use Rattle.calculus.proofs.Theory.Evaluation.Laws.{result-right, right_unique}
-use Rattle.causes.specs.declared.Answer.{Answer as Outcome}
-use Rattle.causes.specs.declared.Answer.TheVariants.{Done, Refused}
-use Rattle.causes.specs.Causes.{Check, first_cause, number, place, numbered, Judged}
+use Rattle.causes.specs.Causes.{Answer as Outcome, Done, Refused, Check, first_cause, number, place, numbered, Judged}
 use Rattle.causes.proofs.Theory.Causes.Laws.{then-done, then-refused, numbered-refused}
 use Rattle.tables.specs.declared.Record.{Record}
 use Rattle.tables.specs.declared.Store.{Store}

@@ -13,19 +13,17 @@ use Rattle.calculus.specs.Order.{Ascending}
 use Rattle.calculus.specs.Generators.{columns}
 use Rattle.calculus.specs.Rows.{Row, row_below, Result, endless, listed}
 use Rattle.calculus.proofs.Theory.Evaluation.Laws.{not-endless}
-use Rattle.causes.specs.declared.Answer.TheVariants.{Done}
-use Rattle.causes.specs.Causes.{number, is_done}
+use Rattle.causes.specs.Causes.{Done, number, is_done}
 use Rattle.tables.specs.declared.Store.{Store}
 use Rattle.tables.specs.Store.{facts, held, judgement}
 use Rattle.query.specs.declared.Query.{Query}
 use Rattle.query.specs.Reading.{pool, formula, read_of}
 use Rattle.answer.specs.Reply.{result_of, query_read, EndlessOver, RightOver}
 use Rattle.standing.specs.declared.View.{View}
-use Rattle.standing.specs.declared.Change.{Change}
+use Rattle.standing.specs.Change.{Change, change_of, fronted}
 use Rattle.standing.specs.Families.{Family, no_list, with_list, Every, Paired, neither, both}
 use Rattle.standing.proofs.Theory.Families.Laws.{with-own, one_list, every-none, paired-with, paired_at}
 use Rattle.standing.specs.View.{rows_in, kept, mark}
-use Rattle.standing.specs.Change.{change_of, fronted}
 use Rattle.standing.proofs.Theory.Change.Calls.{StoreKept, change-store, change-worked}
 use Rattle.standing.specs.Ledger.{Account, Ledger, Call, Report, Difference, Begins, Opens, keeping, Enters, Accounts, closed, opens, enter}
 use Rattle.standing.proofs.Theory.Ledger.Laws.{right-among, opening_account, opens-is, opening-opens, entry, enters-reports}

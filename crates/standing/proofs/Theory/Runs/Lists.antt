@@ -6,8 +6,7 @@ use Rattle.std.proofs.Math.Path.{subst⁻¹}
 use Rattle.std.proofs.Math.Option.{Option, none, some, some-injective, none-ne-some}
 use Rattle.calculus.specs.Reflects.{Reflects, holds, fails}
 use Rattle.calculus.proofs.Theory.Reflects.Laws.{reflects-eqb}
-use Rattle.causes.specs.declared.Answer.TheVariants.{Done}
-use Rattle.causes.specs.Causes.{is_done}
+use Rattle.causes.specs.Causes.{Done, is_done}
 use Rattle.tables.specs.declared.Store.{Store}
 use Rattle.tables.specs.Store.{judgement}
 use Rattle.query.specs.declared.Query.{Query}

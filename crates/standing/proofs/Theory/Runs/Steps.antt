@@ -10,9 +10,7 @@ use Rattle.calculus.proofs.Theory.Reflects.Laws.{reflected}
 use Rattle.calculus.specs.Order.{Ascending}
 use Rattle.calculus.specs.Generators.{columns}
 use Rattle.calculus.specs.Rows.{Row, Result, only_in, numbers, Width}
-use Rattle.causes.specs.declared.Answer.{Answer as Outcome}
-use Rattle.causes.specs.declared.Answer.TheVariants.{Done, Refused}
-use Rattle.causes.specs.Causes.{Check, check, first_cause, when, is_done}
+use Rattle.causes.specs.Causes.{Answer as Outcome, Done, Refused, Check, check, first_cause, when, is_done}
 use Rattle.causes.proofs.Theory.Causes.Laws.{then-done, then-refused, first_done, later-done, first-clear}
 use Rattle.tables.specs.declared.Store.{Store}
 use Rattle.tables.specs.Records.{record_below}

@@ -1,6 +1,6 @@
 -- Laws of the layout: what it says of a list, that the list of right answers has it, and how the code judges it.
 use Rattle.std.specs.Prelude.{ℕ, zero, suc, ◌+◌, ◌-◌, ◌≤◌, ◌<◌, ◌≡◌, refl, Bool, true, false, not, ◌&&◌, List, [], ◌∷◌, ◌++◌, map, length, get_or, take, drop, replicate, T, eqb, ltb}
-use Rattle.std.proofs.Common.{arith, sym, ap, subst, ◌∙◌, take-append-drop, length-drop, length-take-le, get_or-take, le-leb, eq-eqb}
+use Rattle.std.proofs.Common.{arith, sym, ap, subst, ◌∙◌, take_all, take-append-drop, length-drop, length-take-le, get_or-take, le-leb, eq-eqb}
 use Rattle.std.proofs.Math.Path.{subst⁻¹}
 use Rattle.std.proofs.lemmas.Bool.{false≢true, lt-leb}
 use Rattle.std.proofs.Math.Bool.{and-true}
@@ -24,6 +24,7 @@ use Rattle.verdict.proofs.Theory.Verdict.Laws.{column-small}
 use Rattle.standing.specs.declared.Rows.{Rows}
 use Rattle.standing.specs.declared.View.{View}
 use Rattle.standing.specs.View.{max_rows, row_at, row_places, held_rows, unused_places, ends, stored, columns_in, rows_in, columns_fit, rows_fit, counts_fit, view_fits, suits, kept, mark, view_of, QueryColumns}
+use Rattle.standing.specs.Code.View.{tests_of}
 use Rattle.standing.proofs.Theory.View.Laws.{length-row_places, getD-row_places, width-first, width-rows, held-rows-stored, unused-stored, rows_stored}
 use Rattle.standing.proofs.Theory.View.Difference.{padded-ascends}
 
@@ -54,6 +55,10 @@ module _ (vs : List ℕ) (n : ℕ) (h : n ≤ max_rows) where
 
   pub getD-first : (i : ℕ) → i < n → get_or (take n (row_places vs)) i [] ≡ row_at vs i
   getD-first i l = get_or-take n (row_places vs) i [] l ∙ getD-row_places vs i (omega arith)
+
+-- All of them.
+pub all-places : (vs : List ℕ) → take max_rows (row_places vs) ≡ row_places vs
+all-places vs = take_all max_rows (row_places vs) (omega (arith, length-row_places vs))
 
 module _ (r : Rows) (k : ℕ) (few : k ≤ 4) where
   -- Rows held that are zero past their first k values are these, filled up.
@@ -182,7 +187,7 @@ module _ (v : View) (c : Columns) (q : QueryColumns c) where
 
     module _ (h : v.rows.count ≤ max_rows) where
       -- Of a list with the query's columns and at most `max_rows` rows, these tests are left, in this order.
-      suits-tests : suits v (variables_in c) ≡ (all_of (ends c.count) (held_rows v.rows) && is-ascending row_below (held_rows v.rows) && all_of (ends 0) (unused_places v.rows) && not (v.endless && ltb 0 v.rows.count) && eqb (v.opening + v.joined) (v.left + v.rows.count))
+      pub suits-tests : suits v (variables_in c) ≡ tests_of v c.count
       suits-tests =
           let k : ℕ = v.columns.count in
           let f : k ≤ 4 = omega (arith, ap (λ d. d.count) (e ∙ q.whole), q.few) in
@@ -233,15 +238,12 @@ module _ (cols : List ℕ) (c : QueryColumns (columns_of cols)) (found : Result)
   view-suits e =
       let held : held_rows (stored (kept found)) ≡ map (padded 4 0) (kept found) = held-rows-stored (length cols) columns-few (kept found) few wide in
       let judged : true ≡ suits (view_of cols found o j l) (variables_in (columns_of cols)) =
-      suits-balanced
-      (view_of cols found o j l)
-      (columns_of cols)
-      c
-      refl
-      few
-      (ap (all_of (ends (length cols))) held ∙ rows-ended (length cols) (kept found) wide)
-      (ap (is-ascending row_below) held ∙ padded-ascends (length cols) (kept found) wide ∙ reflects-true (reflects-ascending row_below row-order (kept found)) a)
-      (ap (all_of (ends 0)) (unused-stored (length cols) columns-few (kept found) few wide) ∙ all-copies (ends 0) (0 ∷ 0 ∷ 0 ∷ 0 ∷ []) refl (max_rows - length (kept found)))
-      (no-mark found)
-      (sym (eq-eqb (o + j) (l + length (kept found)) e)) in
+      sym (suits-tests (view_of cols found o j l) (columns_of cols) c refl few
+      ∙ rw (
+        ap (all_of (ends (length cols))) held ∙ rows-ended (length cols) (kept found) wide,
+        ap (is-ascending row_below) held ∙ padded-ascends (length cols) (kept found) wide ∙ reflects-true (reflects-ascending row_below row-order (kept found)) a,
+        ap (all_of (ends 0)) (unused-stored (length cols) columns-few (kept found) few wide) ∙ all-copies (ends 0) (0 ∷ 0 ∷ 0 ∷ 0 ∷ []) refl (max_rows - length (kept found)),
+        no-mark found,
+        eq-eqb (o + j) (l + length (kept found)) e,
+      )) in
       subst (λ xs. T (suits (view_of cols found o j l) xs)) (columns_read cols) (subst T judged tt)

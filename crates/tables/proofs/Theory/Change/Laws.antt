@@ -13,9 +13,7 @@ use Rattle.calculus.proofs.Theory.Order.Laws.{below-differs, below_one_way, from
 use Rattle.calculus.specs.Reflects.{Reflects, holds, fails}
 use Rattle.calculus.proofs.Theory.Reflects.Laws.{reflects, reflected, reflects-true, reflects-false, reflects-T, reflects-map, reflects-not}
 use Rattle.calculus.specs.Satisfaction.{Fact}
-use Rattle.causes.specs.declared.Answer.{Answer}
-use Rattle.causes.specs.declared.Answer.TheVariants.{Done, Refused}
-use Rattle.causes.specs.Causes.{Check, check, first_cause, when, widths_fit}
+use Rattle.causes.specs.Causes.{Answer, Done, Refused, Check, check, first_cause, when, widths_fit}
 use Rattle.causes.proofs.Theory.Causes.Laws.{first-clear, first-passed}
 use Rattle.tables.specs.declared.Record.{Record}
 use Rattle.tables.specs.declared.Store.{Store}

@@ -10,19 +10,16 @@ use Rattle.calculus.proofs.Theory.Order.Laws.{from-insert, in_insert, insert-asc
 use Rattle.calculus.specs.Reflects.{Reflects, holds, fails}
 use Rattle.calculus.proofs.Theory.Reflects.Laws.{reflects-T, reflects-false, reflects-ltb}
 use Rattle.calculus.specs.Satisfaction.{Fact}
-use Rattle.causes.specs.declared.Answer.{Answer}
-use Rattle.causes.specs.declared.Answer.TheVariants.{Done, Refused}
-use Rattle.causes.specs.Causes.{check, first_cause, when, widths_fit}
+use Rattle.causes.specs.Causes.{Answer, Done, Refused, check, first_cause, when, widths_fit}
 use Rattle.causes.proofs.Theory.Causes.Laws.{first-clear, first-passed}
 use Rattle.tables.specs.declared.Record.{Record}
 use Rattle.tables.specs.declared.Store.{Store}
-use Rattle.tables.specs.declared.Changed.{Changed}
+use Rattle.tables.specs.Change.{Changed, is_held, reply}
 use Rattle.tables.specs.Records.{record_below, fits, fact_of}
 use Rattle.tables.proofs.Theory.Records.Laws.{record-order}
 use Rattle.tables.specs.Store.{capacity, facts, has_room, have_room, store_of, no_store, Layout}
 use Rattle.tables.proofs.Theory.Store.Room.{room-few, room-insert}
 use Rattle.tables.proofs.Theory.Store.Laws.{held-store-of, facts-store-of, layout-store-of}
-use Rattle.tables.specs.Change.{is_held, reply}
 use Rattle.tables.specs.Code.Change.{insertion}
 use Rattle.tables.proofs.Theory.Change.Laws.{reflects-held, insertion-in_layout}
 use Rattle.tables.specs.Fill.{unless_refused, fill_checks, fill_from, fill_reply}

@@ -12,8 +12,7 @@ use Rattle.calculus.specs.Order.{Ascending}
 use Rattle.calculus.proofs.Theory.Order.Laws.{reflects-ascending}
 use Rattle.calculus.specs.Reflects.{Reflects}
 use Rattle.calculus.proofs.Theory.Reflects.Laws.{reflects-T, reflects-map, reflects-and, reflects-leb}
-use Rattle.causes.specs.declared.Answer.TheVariants.{Done}
-use Rattle.causes.specs.Causes.{check, when, widths_fit}
+use Rattle.causes.specs.Causes.{Done, check, when, widths_fit}
 use Rattle.causes.proofs.Theory.Causes.Laws.{first-passed}
 use Rattle.tables.specs.declared.Record.{Record}
 use Rattle.tables.specs.declared.Store.{Store}

@@ -27,7 +27,7 @@ use Rattle.query.specs.Accepted.{Accepted}
 use Rattle.query.proofs.Theory.Accepted.Laws.{pool_of, nodes_of-query, node_at, packed-accepted, formula-last, nodes-length-is}
 use Rattle.query.proofs.Theory.Accepted.Order.{nonzero-false, record-again, equality-again, record-width}
 use Rattle.verdict.specs.Form.{form_of}
-use Rattle.verdict.specs.Code.Form.{IsForm, last, true_word, settled, negated, joined, quantified}
+use Rattle.verdict.specs.Code.Form.{IsForm, IsFormIn, last, true_word, settled, negated, joined, quantified}
 
 -- The kind of an and, and that of an or.
 abbrev pub join_kind : Bool → ℕ
@@ -256,3 +256,7 @@ module _ (ws : List ℕ) (q : Query) (a : Accepted ws q) where
     formed = form-accepted.formed;
     ordered = (λ i h. (tree-sound form-tree i (omega arith) (omega (arith, length-words (cp (formula q)) 0))).ordered);
   }
+
+-- The nodes of a form stand in the list of its places.
+pub form_in : {nodes : List ℕ} {n : ℕ} → IsForm nodes n → IsFormIn nodes n
+form_in f = record { some_node = f.some_node; few_nodes = f.few_nodes; places = omega (arith, f.places, f.few_nodes); formed = f.formed; ordered = f.ordered }

@@ -24,24 +24,22 @@ use Rattle.calculus.specs.SafeRange.{SafeRange, Unranged, SafeBefore}
 use Rattle.calculus.proofs.Theory.SafeRange.Laws.{safe-before}
 use Rattle.calculus.proofs.Theory.SafeRange.Result.{columns-members, ungenerated-means, unranged-means, safe-reflects}
 use Rattle.calculus.proofs.Theory.Propagation.Laws.{size-cp}
-use Rattle.causes.specs.declared.Answer.TheVariants.{Done, Refused}
+use Rattle.causes.specs.Causes.{Done, Refused}
 use Rattle.query.specs.declared.Query.{Query}
 use Rattle.query.specs.declared.Columns.{Columns}
-use Rattle.query.specs.declared.Reading.{Reading}
+use Rattle.query.specs.Reading.{Reading, max_nodes, max_columns, read_of, nodes_in, pool, formula, columns_of, variables_in, max_constants, constants_of, nodes_of}
 use Rattle.query.specs.Decoding.{formula_at}
 use Rattle.query.proofs.Theory.Code.Free.Laws.{fv-small}
-use Rattle.query.specs.Reading.{max_nodes, max_columns, read_of, nodes_in, pool, formula, columns_of, variables_in, max_constants, constants_of, nodes_of}
 use Rattle.query.proofs.Theory.Packing.Laws.{length-words}
 use Rattle.query.specs.Accepted.{Accepted}
 use Rattle.query.proofs.Theory.Accepted.Laws.{read-refused, read_done, read-size, reading-accepted, pool_of}
-use Rattle.verdict.specs.declared.Verdict.{Verdict}
+use Rattle.verdict.specs.Verdict.{Verdict, refusal_with, refusal, judged, verdict_reply, verdict_of}
 use Rattle.verdict.specs.Bits.{mask, node_mask, has}
 use Rattle.verdict.proofs.Theory.Bits.Laws.{has-bits, mask-empty}
 use Rattle.verdict.specs.Form.{form_of}
-use Rattle.verdict.proofs.Theory.Form.Laws.{form-accepted, form_count, form-formula, form_pool, form_is, form-root}
+use Rattle.verdict.proofs.Theory.Form.Laws.{form-accepted, form_count, form-formula, form_pool, form_is, form_in, form-root}
 use Rattle.verdict.specs.Code.Generating.{generated_bits, plain_bits, numbers_of, missing_from, unranged_in}
 use Rattle.verdict.proofs.Theory.Code.Generating.Reports.{numbers-right, unranged-right, missing-right}
-use Rattle.verdict.specs.Verdict.{refusal_with, refusal, judged, verdict_reply, verdict_of}
 
 -- ---- the reply, by the reader's answer
 
@@ -141,7 +139,7 @@ module _ (ws : List ℕ) (q : Query) (a : Accepted ws q) where
 
   numbers-found : numbers_of (form_of q).nodes (form_of q).node_count (columns (formula q)) ≡ (judged q).generators
   numbers-found =
-      numbers-right (form_of q).nodes (form_of q).node_count (columns (formula q)) (form_is ws q a) form-spans
+      numbers-right (form_of q).nodes (form_of q).node_count (columns (formula q)) (form_in (form_is ws q a)) form-spans
       ∙ ap (λ φ. padded max_columns 0 (map node_mask (map (λ x. leaves (plain φ 0 x)) (columns (formula q))))) (form-root ws q a)
 
   missing-found : missing_from (plain_bits (form_of q).nodes ((form_of q).node_count - 1)) (columns (formula q)) ≡ (judged q).ungenerated
@@ -151,7 +149,7 @@ module _ (ws : List ℕ) (q : Query) (a : Accepted ws q) where
 
   unranged-found : unranged_in (form_of q).nodes (form_of q).node_count ≡ (judged q).unranged
   unranged-found =
-      unranged-right (form_of q).nodes (form_of q).node_count (form_is ws q a) form-spans
+      unranged-right (form_of q).nodes (form_of q).node_count (form_in (form_is ws q a)) form-spans
       ∙ ap (λ φ. node_mask (union_of unranged_node (nodes φ 0))) (form-root ws q a)
 
 -- A reply of these parts.

@@ -1,20 +1,18 @@
--- Laws of a node's fields as read: tests of its terms, and what is known of it from them.
-use Rattle.std.specs.Prelude.{ℕ, zero, suc, ◌-◌, ◌≤◌, ◌<◌, ◌≡◌, refl, ◌≢◌, Bool, true, false, not, ◌&&◌, ◌||◌, List, [], ◌∷◌, map, get_or, take, drop, eqb}
-use Rattle.std.proofs.Common.{arith, sym, ap, ◌∙◌, ⊎_elim}
-use Rattle.std.proofs.Math.Bool.{or-false}
+-- Laws of a node taken apart: tests of its terms, and what its fields say of it.
+use Rattle.std.specs.Prelude.{ℕ, zero, suc, ◌≡◌, refl, Bool, true, false, not, ◌&&◌, ◌||◌, List, [], ◌∷◌, map, take, drop, ◌-◌, ◌≤◌, ◌<◌, ◌≢◌, get_or, eqb}
+use Rattle.std.proofs.Common.{sym, ap, ◌∙◌, arith, ⊎_elim}
 use Rattle.calculus.specs.Sets.{any_of, all_of}
-use Rattle.query.specs.declared.node.Node.{Node}
-use Rattle.query.specs.Nodes.{kind, term_count, terms, children, nonzero, malformed, truth_rest, record_rest, equality_rest, not_rest, join_rest, exists_rest}
-use Rattle.query.proofs.Theory.Nodes.Laws.{two-or, children-not, children-exists, children-two, children-none}
-use Rattle.query.specs.Code.Fields.{NodeOf, rest_of, itself}
+use Rattle.query.specs.declared.node.Node.TheVariants.{Record, Not, Join, Exists}
+use Rattle.query.specs.declared.node.Atom.{Atom}
+use Rattle.query.specs.declared.node.Connective.{Connective}
+use Rattle.query.specs.declared.node.Connective.TheVariants.{And, Or}
+use Rattle.query.specs.Nodes.{term_count, terms, children, nonzero, malformed, is_stray, strays, record_rest, kind, truth_rest, equality_rest, not_rest, join_rest, exists_rest}
+use Rattle.query.proofs.Theory.Nodes.Laws.{children-not, children-exists, two-or, children-two, children-none}
+use Rattle.query.specs.Code.Fields.{IsNode, rest_of, itself, NodeOf}
+use Rattle.std.proofs.Math.Bool.{or-false}
+use Rattle.query.specs.declared.node.Parts.{Parts}
 
 -- ---- tests of terms
-
--- Some of the first tests is true exactly where it is of some of the first elements.
-pub some-tested : {A : Type 0} (f : A → Bool) (n : ℕ) (xs : List A) → any_of itself (take n (map f xs)) ≡ any_of f (take n xs)
-some-tested f zero xs = refl
-some-tested f (suc n) [] = refl
-some-tested f (suc n) (x ∷ xs) = λ i. f x || some-tested f n xs i
 
 -- All of the first elements pass where none of the tests finds one that doesn't.
 pub all_tested : {A : Type 0} (f : A → Bool) (n : ℕ) (xs : List A) → all_of f (take n xs) ≡ not (any_of itself (take n (map (λ x. not (f x)) xs)))
@@ -26,7 +24,37 @@ all_tested f (suc n) (x ∷ xs) = both (f x) (any_of itself (take n (map (λ y. 
     both true d e = e
     both false d e = refl
 
--- ---- the bits past the fields
+-- ---- the children, by what a node is
+
+pub children-Not : (w : ℕ) {c : ℕ} → IsNode w (Not c) → children w ≡ c ∷ []
+children-Not w n = children-not w n.0 ∙ ap (λ c. c ∷ []) (sym n.1)
+
+pub children-Exists : (w : ℕ) {x c : ℕ} → IsNode w (Exists x c) → children w ≡ c ∷ []
+children-Exists w n = children-exists w n.0 ∙ ap (λ c. c ∷ []) (sym n.3)
+
+pub children-Join : (w : ℕ) {l r : ℕ} (k : Connective) → IsNode w (Join k l r) → children w ≡ l ∷ r ∷ []
+children-Join w And n = rw n.0 (λ i. sym n.1 i ∷ sym n.3 i ∷ [])
+children-Join w Or n = rw n.0 (λ i. sym n.1 i ∷ sym n.3 i ∷ [])
+
+-- ---- the terms of a record
+
+pub malformed-Record : (w : ℕ) (a : Atom) → IsNode w (Record a) → rest_of w ≡ 0 → any_of nonzero (drop a.count a.terms) ≡ malformed w
+malformed-Record w a n z =
+    (λ i. any_of nonzero (drop (n.3 i) (n.4 i))) ∙ rw n.0 (ap (λ r. nonzero r || any_of nonzero (drop (term_count w) (terms w))) (sym rest))
+  where
+    rest : record_rest w ≡ 0
+    rest = sym (rw n.0 refl) ∙ z
+
+pub strays-Record : (k w : ℕ) (a : Atom) → IsNode w (Record a) → any_of (is_stray k) (take a.count a.terms) ≡ strays k w
+strays-Record k w a n = (λ i. any_of (is_stray k) (take (n.3 i) (n.4 i))) ∙ rw n.0 refl
+
+-- ---- laws that stand as they stood
+
+-- Some of the first tests is true exactly where it is of some of the first elements.
+pub some-tested : {A : Type 0} (f : A → Bool) (n : ℕ) (xs : List A) → any_of itself (take n (map f xs)) ≡ any_of f (take n xs)
+some-tested f zero xs = refl
+some-tested f (suc n) [] = refl
+some-tested f (suc n) (x ∷ xs) = λ i. f x || some-tested f n xs i
 
 pub rest-two : (w : ℕ) → 4 ≤ kind w → kind w ≤ 5 → rest_of w ≡ join_rest w
 rest-two w h l = ⊎_elim (λ e. rw e) (λ e. rw e) (two-or (kind w) h l)
@@ -49,9 +77,7 @@ by-rest (suc (suc (suc (suc (suc (suc (suc k))))))) a b c d e f g x h = absurd (
 pub malformed-rest : (w : ℕ) → kind w < 7 → malformed w ≡ (nonzero (rest_of w) || (eqb (kind w) 1 && any_of nonzero (drop (term_count w) (terms w))))
 malformed-rest w = by-rest (kind w) (truth_rest w) (record_rest w) (equality_rest w) (not_rest w) (join_rest w) (join_rest w) (exists_rest w) (any_of nonzero (drop (term_count w) (terms w)))
 
--- ---- what is known of the fields read, said of the node
-
-module _ {w : ℕ} {f : Node} (n : NodeOf w f) where
+module _ {w : ℕ} {f : Parts} (n : NodeOf w f) where
   pub kind-read : {j : ℕ} → f.kind ≡ j → kind w ≡ j
   kind-read k = ap (λ g. g.kind) (sym n.reads) ∙ k
 

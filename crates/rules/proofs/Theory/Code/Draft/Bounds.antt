@@ -1,12 +1,11 @@
 -- The bounds that the code's indices rest on are kept by a term.
-use Rattle.std.specs.Prelude.{ℕ, zero, suc, ◌+◌, ◌≤◌, ◌<◌, ◌≡◌, Bool, true, false, cond, List, [], ◌∷◌, get_or, set, take}
+use Rattle.std.specs.Prelude.{ℕ, zero, suc, List, [], ◌∷◌, get_or, set, ◌+◌, ◌≤◌, ◌<◌, ◌≡◌, Bool, true, false, cond, take}
+use Rattle.rules.specs.Code.Draft.{Body, Small, overrun, unnamed, past, with_term, put_variable, put_place, put_constant, put_term}
 use Rattle.std.proofs.Common.{arith}
 use Rattle.calculus.specs.Reflects.{Reflects, holds, fails}
 use Rattle.calculus.proofs.Theory.Reflects.Laws.{reflects-ltb, reflects-leb, reflects-eqb}
 use Rattle.query.specs.Reading.{max_constants}
-use Rattle.rules.specs.declared.draft.Body.{Body}
 use Rattle.rules.specs.Meaning.{place_in, max_terms, max_number}
-use Rattle.rules.specs.Code.Draft.{past, Small, overrun, unnamed, with_term, put_variable, put_place, put_constant, put_term}
 
 -- A property of every place and of what is written holds of every place after writing.
 pub set-each : (P : ℕ → Type 0) (xs : List ℕ) (k x : ℕ) → P x → ((i : ℕ) → P (get_or xs i 0)) → (i : ℕ) → P (get_or (set xs k x) i 0)
@@ -22,6 +21,8 @@ small-overrun s = record { count_small = s.count_small; terms_small = s.terms_sm
 
 pub small-unnamed : {b : Body} → Small b → Small (unnamed b)
 small-unnamed s = record { count_small = s.count_small; terms_small = s.terms_small; constants_small = s.constants_small; nodes_small = s.nodes_small }
+
+-- ---- laws that stand as they stood
 
 pub small-with_term : (b : Body) (code : ℕ) (seen : List Bool) (k : ℕ) → Small b → b.count < max_terms → code < 32 → k ≤ max_constants → Small (with_term b code seen k)
 small-with_term b code seen k s l h m =

@@ -1,14 +1,13 @@
 -- Laws of what the code keeps of a rule: of numbers past all limits, of places among the constants, and of nodes added one by one.
-use Rattle.std.specs.Prelude.{ℕ, suc, ◌+◌, ◌-◌, ◌≤◌, ◌<◌, ◌*◌, ◌≡◌, refl, Bool, true, false, cond, List, ◌∷◌, length, get_or, set, drop, ltb}
-use Rattle.std.proofs.Common.{arith, add-one, sym, ap, subst, ◌∙◌, drop_of_length-le, drop-cons, lt-ltb, le-ltb, eq-eqb, ne_eqb}
-use Rattle.std.proofs.lemmas.Bool.{lt-leb}
+use Rattle.std.specs.Prelude.{Option, Some, None, Ok, Err, ok_or, ℕ, suc, ◌+◌, ◌≤◌, ◌<◌, ◌*◌, ◌≡◌, refl, Bool, cond, List, set, drop, ◌-◌, true, false, ◌∷◌, length, get_or, ltb}
+use Rattle.std.proofs.Common.{arith, sym, ap, subst, ◌∙◌, lt-ltb, le-ltb, add-one, drop_of_length-le, drop-cons, eq-eqb, ne_eqb}
 use Rattle.calculus.specs.Reflects.{Reflects, holds, fails}
 use Rattle.calculus.proofs.Theory.Reflects.Laws.{reflects-ltb, reflects-leb}
 use Rattle.query.specs.Reading.{max_nodes}
-use Rattle.query.specs.Nodes.{not_word, join_word}
 use Rattle.rules.specs.Meaning.{place_in, max_terms}
-use Rattle.rules.specs.declared.draft.Body.{Body}
-use Rattle.rules.specs.Code.Draft.{past, capped, capped_more, overrun, unnamed, put_variable, put_constant, put_term, Nodes, add_word, deny_goal, join_goal, onward, append_goal, fresh_goal, settled}
+use Rattle.rules.specs.Code.Draft.{Body, with_room, past, capped, capped_more, Nodes, add_word, onward, deny_goal, join_goal, overrun, unnamed, put_variable, put_constant, put_term, append_goal, fresh_goal, settled}
+use Rattle.query.specs.Nodes.{not_word, join_word}
+use Rattle.std.proofs.lemmas.Bool.{lt-leb}
 
 -- ---- numbers
 
@@ -18,9 +17,6 @@ capped-past n h = go (reflects-ltb past n)
     go : {b : Bool} → Reflects (past < n) b → cond b past n ≡ past
     go (holds l) = refl
     go (fails g) = omega arith
-
-pub capped-within : (n : ℕ) → n ≤ past → capped n ≡ n
-capped-within n h = rw (le-ltb past n h)
 
 -- The code's number is no larger than the number read.
 pub capped_le : (n : ℕ) → capped n ≤ n
@@ -60,20 +56,33 @@ capped_more-capped n d = go (reflects-ltb past n)
 abbrev pub PlaceFrom : List ℕ → ℕ → ℕ → Type 0
 PlaceFrom xs v i = place_in xs v ≡ i + place_in (drop i xs) v
 
-module _ (xs : List ℕ) (v i : ℕ) where
-  place-next : i < length xs → i + place_in (drop i xs) v ≡ i + place_in (get_or xs i 0 ∷ drop (suc i) xs) v
-  place-next h = ap (λ ys. i + place_in ys v) (drop-cons xs i 0 h)
+-- ---- a Result of an Option
 
-  pub place_here : i < length xs → get_or xs i 0 ≡ v → PlaceFrom xs v i → place_in xs v ≡ i
-  place_here h e p = p ∙ place-next h ∙ (rw (eq-eqb v (get_or xs i 0) (sym e)) (omega arith))
+pub was-some : {A E : Type 0} (o : Option A) (e : E) (a : A) → ok_or o e ≡ Ok a → o ≡ Some a
+was-some None e a f = absurd (cc)
+was-some (Some b) e a f = cc
 
-  pub place-on : i < length xs → ¬ (get_or xs i 0 ≡ v) → PlaceFrom xs v i → PlaceFrom xs v (i + 1)
-  place-on h n p = p ∙ place-next h ∙ (rw (ne_eqb v (get_or xs i 0) (λ e. n (sym e)), add-one i) (omega arith))
-
-  pub place-ends : length xs ≤ i → PlaceFrom xs v i → place_in xs v ≡ i
-  place-ends h p = p ∙ (rw (drop_of_length-le xs h) (omega arith))
+pub was-none : {A E : Type 0} (o : Option A) (e d : E) → ok_or o e ≡ Err d → o ≡ None
+was-none None e d f = refl
+was-none (Some b) e d f = absurd (cc)
 
 -- ---- nodes added one by one
+
+-- What the code has of their number says whether there was room.
+module _ (a : Nodes) (r : Option ℕ) (ms : List ℕ) (e : (r, ms) ≡ with_room a) where
+  pub room-none : r ≡ None → (max_nodes < a.0) × (a.1 ≡ ms)
+  room-none d = (go (reflects-ltb max_nodes a.0) (sym d ∙ ap (λ q. q.0) e), ap (λ q. q.1) (sym e))
+    where
+      go : {b : Bool} → Reflects (max_nodes < a.0) b → None ≡ cond b None (Some a.0) → max_nodes < a.0
+      go (holds l) f = l
+      go (fails g) f = cc
+
+  pub room-some : (m : ℕ) → r ≡ Some m → (m ≤ max_nodes) × ◌≡◌ {A = Nodes} (m, ms) a
+  room-some m d = go (reflects-ltb max_nodes a.0) (sym d ∙ ap (λ q. q.0) e)
+    where
+      go : {b : Bool} → Reflects (max_nodes < a.0) b → Some m ≡ cond b None (Some a.0) → (m ≤ max_nodes) × ◌≡◌ {A = Nodes} (m, ms) a
+      go (holds l) f = absurd (cc)
+      go (fails g) f = let z : m ≡ a.0 = cc in (omega arith, λ i. (z i, ap (λ q. q.1) e i))
 
 -- What was added and has no room ends there; otherwise what comes next decides.
 module _ (a : Nodes) (f : ℕ → List ℕ → Nodes) (n : ℕ) (ns : List ℕ) (e : ◌≡◌ {A = Nodes} (n, ns) a) where
@@ -90,6 +99,24 @@ added-one w n ns m ms e h = go (reflects-leb max_nodes n) e
     go : {b : Bool} → Reflects (max_nodes ≤ n) b → ◌≡◌ {A = Nodes} (m, ms) (cond b (max_nodes + 1, ns) (n + 1, set ns n w)) → m ≡ n + 1
     go (holds l) d = let z : m ≡ max_nodes + 1 = ap (λ q. q.0) d in absurd (omega arith)
     go (fails g) d = ap (λ q. q.0) d
+
+-- ---- laws that stand as they stood
+
+pub capped-within : (n : ℕ) → n ≤ past → capped n ≡ n
+capped-within n h = rw (le-ltb past n h)
+
+module _ (xs : List ℕ) (v i : ℕ) where
+  place-next : i < length xs → i + place_in (drop i xs) v ≡ i + place_in (get_or xs i 0 ∷ drop (suc i) xs) v
+  place-next h = ap (λ ys. i + place_in ys v) (drop-cons xs i 0 h)
+
+  pub place_here : i < length xs → get_or xs i 0 ≡ v → PlaceFrom xs v i → place_in xs v ≡ i
+  place_here h e p = p ∙ place-next h ∙ (rw (eq-eqb v (get_or xs i 0) (sym e)) (omega arith))
+
+  pub place-on : i < length xs → ¬ (get_or xs i 0 ≡ v) → PlaceFrom xs v i → PlaceFrom xs v (i + 1)
+  place-on h n p = p ∙ place-next h ∙ (rw (ne_eqb v (get_or xs i 0) (λ e. n (sym e)), add-one i) (omega arith))
+
+  pub place-ends : length xs ≤ i → PlaceFrom xs v i → place_in xs v ≡ i
+  place-ends h p = p ∙ (rw (drop_of_length-le xs h) (omega arith))
 
 -- There are no fewer nodes with a not.
 pub denied-no-fewer : (d : Bool) (n : ℕ) (ns : List ℕ) (m : ℕ) (ms : List ℕ) → n ≤ max_nodes → ◌≡◌ {A = Nodes} (m, ms) (deny_goal d n ns) → n ≤ m

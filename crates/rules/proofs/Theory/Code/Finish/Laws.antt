@@ -9,23 +9,20 @@ use Rattle.calculus.specs.Sets.{Any, In, any_of, member}
 use Rattle.calculus.proofs.Theory.Sets.Laws.{reflects-any, reflects-member}
 use Rattle.calculus.specs.Lists.{padded}
 use Rattle.calculus.specs.Formula.{Fmla, size}
-use Rattle.causes.specs.declared.Answer.TheVariants.{Done}
+use Rattle.causes.specs.Causes.{Done}
 use Rattle.query.specs.Reading.{max_nodes, max_constants, query_of}
 use Rattle.query.specs.Packing.{words, packed_bytes}
 use Rattle.query.proofs.Theory.Packing.Laws.{size-positive, length-words}
 use Rattle.query.specs.Code.Writing.{overlay}
 use Rattle.query.proofs.Theory.Code.Writing.Laws.{front-padded}
-use Rattle.rules.specs.declared.Packing.{Packing}
-use Rattle.rules.specs.declared.draft.Head.{Head}
-use Rattle.rules.specs.declared.draft.Body.{Body}
+use Rattle.rules.specs.Reply.{Packing, max_bytes, bytes_of, refused, packed, rule_packing}
 use Rattle.rules.specs.Grammar.{Several, several, all, Goal, holds, fails, equal, Rule, rule}
 use Rattle.rules.specs.Meaning.{goals, goal_terms, variables_in, values_in, pooled, pool_of, matrix, bound, formula_of, max_terms, crowded, overstepped}
 use Rattle.rules.proofs.Theory.Meaning.Limits.{Within, within, not-overstepped}
 use Rattle.rules.proofs.Theory.Meaning.Packing.{length-bytes-of, bytes-short}
-use Rattle.rules.specs.Reply.{max_bytes, bytes_of, refused, packed, rule_packing}
 use Rattle.rules.specs.Code.Scan.{Draft}
 use Rattle.rules.specs.Code.Automaton.{done}
-use Rattle.rules.specs.Code.Draft.{Nodes, Small}
+use Rattle.rules.specs.Code.Draft.{Head, Body, Nodes, Small}
 use Rattle.rules.specs.Code.Keeping.{HeadFine, HeadStored, idle, pool, goal_nodes, Fine, Stored, Kept}
 use Rattle.rules.specs.Code.Finish.{Variables, is_bound, bound_down, bind_all, packing_of, quantified_reply, finished}
 use Rattle.rules.proofs.Theory.Code.Finish.Quantifiers.{size-quantified, nodes_of, bind-rule, bind-full}

@@ -8,11 +8,10 @@ use Rattle.calculus.proofs.Theory.Lists.Laws.{padded-put}
 use Rattle.calculus.specs.Order.{Ascending, nothing, before}
 use Rattle.calculus.specs.Reflects.{Reflects, holds, fails}
 use Rattle.calculus.proofs.Theory.Reflects.Laws.{reflects-ltb, reflects-leb, reflects-or}
-use Rattle.rules.specs.declared.draft.Head.{Head}
 use Rattle.rules.specs.Meaning.{max_terms, max_number}
 use Rattle.rules.proofs.Theory.Code.Draft.Bounds.{set-each}
 use Rattle.rules.proofs.Theory.Code.Draft.Laws.{capped_le, capped-below}
-use Rattle.rules.specs.Code.Draft.{capped, head_of, put_column, empty_head}
+use Rattle.rules.specs.Code.Draft.{Head, capped, head_of, put_column, empty_head}
 use Rattle.rules.specs.Code.Keeping.{HeadFine, HeadStored, HeadKeeps}
 use Rattle.rules.proofs.Theory.Code.Keeping.Laws.{copies-each}
 

@@ -15,13 +15,12 @@ use Rattle.query.specs.Nodes.{record_word, equality_word, not_word}
 use Rattle.query.specs.Reading.{max_nodes, max_constants}
 use Rattle.query.specs.Packing.{term_code, code_at, words}
 use Rattle.query.proofs.Theory.Packing.Laws.{length-words}
-use Rattle.rules.specs.declared.draft.Body.{Body}
 use Rattle.rules.specs.Grammar.{Several, all, Term, Goal, equal}
 use Rattle.rules.specs.Meaning.{term_variables, term_values, goal_relations, goal_variables, goal_values, relations_in, variables_in, values_in, pooled, term_in, goal_formula, conjoined, max_terms, max_number, crowded}
 use Rattle.rules.proofs.Theory.Meaning.Laws.{conjoined-append}
 use Rattle.rules.proofs.Theory.Code.Draft.Laws.{capped_le, capped-below}
 use Rattle.rules.specs.Code.Automaton.{and_last, term_of, relation_goal}
-use Rattle.rules.specs.Code.Draft.{capped, overrun, Small, Nodes, append_goal, fresh_goal, settled, with_subject}
+use Rattle.rules.specs.Code.Draft.{Body, capped, overrun, Small, Nodes, append_goal, fresh_goal, settled, with_subject}
 use Rattle.rules.specs.Code.Scan.{term_step, relation_step, equality_step, body_step}
 use Rattle.rules.specs.Code.Keeping.{Account, account_of, idle, values_of, variables_of, pool, goal_nodes, code_of, Fine, Stored, Keeps, KeepsAll}
 use Rattle.rules.proofs.Theory.Code.Keeping.Laws.{union-last, copies-each, past-limit, keeps-overrun, within-limits, keeps-guarded}

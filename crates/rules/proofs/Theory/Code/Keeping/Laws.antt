@@ -4,11 +4,10 @@ use Rattle.std.proofs.Common.{arith, sym, ap, ◌∙◌, true≢false, append-ni
 use Rattle.std.proofs.lemmas.List.{get_or-replicate}
 use Rattle.calculus.specs.Sets.{union_of}
 use Rattle.calculus.proofs.Theory.Sets.Laws.{in-nil, union-append}
-use Rattle.rules.specs.declared.draft.Body.{Body}
 use Rattle.rules.specs.Grammar.{Term, Goal}
 use Rattle.rules.specs.Meaning.{max_terms}
 use Rattle.rules.proofs.Theory.Code.Draft.Bounds.{small-overrun}
-use Rattle.rules.specs.Code.Draft.{capped, body_of, overrun, Small, empty_body}
+use Rattle.rules.specs.Code.Draft.{Body, capped, body_of, overrun, Small, empty_body}
 use Rattle.rules.specs.Code.Scan.{Goals, by_effect, body_step}
 use Rattle.rules.specs.Code.Keeping.{Account, account_of, idle, Fine, Stored, Keeps, KeepsAll}
 

@@ -8,12 +8,10 @@ use Rattle.calculus.proofs.Theory.Reflects.Laws.{reflects-eqb, reflects-ltb, ref
 use Rattle.calculus.proofs.Theory.Lists.Laws.{and-holds}
 use Rattle.rules.specs.declared.mode.Mode.{Mode}
 use Rattle.rules.specs.declared.mode.Mode.TheVariants.{Out, Start, Letter, ColumnDue, Column, Closed, Colon, GoalDue, DenialN, DenialNo, DenialNot, Denial, Relation, TermDue, Ended, Subject, Spaced, Equals, OtherDue, Other, Done, Term as TermMode}
-use Rattle.rules.specs.declared.draft.Head.{Head}
-use Rattle.rules.specs.declared.draft.Body.{Body}
 use Rattle.rules.specs.Grammar.{Term, Goal, equal}
 use Rattle.rules.proofs.Theory.Code.Draft.Laws.{capped-positive, capped_more-capped}
 use Rattle.rules.specs.Code.Modes.{picked, next_mode, suits}
-use Rattle.rules.specs.Code.Draft.{capped, capped_more, put_column}
+use Rattle.rules.specs.Code.Draft.{Head, Body, capped, capped_more, put_column}
 use Rattle.rules.specs.Code.Scan.{Draft, draft_of, start_draft, moved_to, digit_step, Goals, body_step, turned, turn_step, draft_step}
 use Rattle.rules.specs.Code.Automaton.{State, start, letter, column_due, column, closed, colon, goal_due, denial_n, denial_no, denial_not, denial, relation, term_due, term, ended, subject, spaced, equals, other_due, other, done, Move, ◌to◌, digit_moves, after, term_of, moves, chosen, step}
 use Rattle.rules.proofs.Theory.Code.Automaton.Laws.{NoDigit, chosen-passed, chosen-first, chosen_more, after_column, after_term, after_goal}

@@ -14,14 +14,13 @@ use Rattle.calculus.proofs.Theory.Reflects.Laws.{reflects-eqb, reflects-ltb, ref
 use Rattle.calculus.specs.Satisfaction.{Pool}
 use Rattle.query.specs.Reading.{max_nodes, max_constants}
 use Rattle.query.specs.Packing.{term_code, words}
-use Rattle.rules.specs.declared.draft.Body.{Body}
 use Rattle.rules.specs.Grammar.{several, Term, variable, value, Goal}
 use Rattle.rules.specs.Meaning.{term_variables, term_values, variables_in, values_in, added, pooled, place_in, max_terms, max_number, max_value}
 use Rattle.rules.proofs.Theory.Meaning.Constants.{pooled-append, added-known, added_new, pooled-extends, in-pooled, place-below, place-missing, term_stable, matrix-stable}
 use Rattle.rules.proofs.Theory.Code.Draft.Bounds.{set-each, small-unnamed}
 use Rattle.rules.proofs.Theory.Code.Draft.Laws.{capped_le, capped-below}
 use Rattle.rules.specs.Code.Automaton.{term_of}
-use Rattle.rules.specs.Code.Draft.{past, capped, body_of, overrun, Small, with_term, put_variable, put_place, put_constant, unnamed}
+use Rattle.rules.specs.Code.Draft.{Body, past, capped, body_of, overrun, Small, with_term, put_variable, put_place, put_constant, unnamed}
 use Rattle.rules.specs.Code.Scan.{term_step, body_step}
 use Rattle.rules.specs.Code.Keeping.{Account, account_of, values_of, variables_of, pool, goal_nodes, code_of, Fine, Stored, Keeps, KeepsAll}
 use Rattle.rules.proofs.Theory.Code.Keeping.Laws.{union-last, keeps-overrun, within-limits, keeps-guarded}

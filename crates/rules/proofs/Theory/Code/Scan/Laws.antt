@@ -1,14 +1,11 @@
 -- Laws of a byte's step: the effects on the goals, by number; and the step in two parts, where the reader stands and what becomes of head and goals.
-use Rattle.std.specs.Prelude.{ℕ, zero, suc, ◌≤◌, ◌<◌, ◌≡◌, refl, ◌≢◌, Bool, true, false, ◌||◌, cond, List, eqb, ltb}
-use Rattle.std.proofs.Common.{sym, ap, ◌∙◌, arith, lt-ltb, le-ltb, ne_eqb}
-use Rattle.rules.specs.declared.draft.Body.{Body}
-use Rattle.rules.specs.declared.mode.Mode.{Mode}
+use Rattle.std.specs.Prelude.{ℕ, zero, suc, ◌≡◌, refl, ◌≢◌, Bool, true, false, ◌||◌, cond, List, eqb, ltb, ◌≤◌, ◌<◌}
+use Rattle.std.proofs.Common.{sym, ap, ◌∙◌, arith, ne_eqb, lt-ltb, le-ltb}
 use Rattle.rules.specs.declared.mode.Mode.TheVariants.{Out}
-use Rattle.rules.specs.declared.scan.Reader.{Reader}
-use Rattle.rules.specs.declared.draft.Head.{Head}
 use Rattle.rules.specs.Code.Modes.{next_mode, effect_of, suits, stage_of}
-use Rattle.rules.specs.Code.Draft.{put_column, put_term, put_relation, put_equality}
-use Rattle.rules.specs.Code.Scan.{Draft, Goals, relation_step, equality_step, by_effect, body_step, moved_to, turned, turn_by, turn_step, digit_step, draft_step, draft_of, reader_of, digit_reader, turn_reader, reader_step, effect_at, draft_at, turn_mode}
+use Rattle.rules.specs.Code.Draft.{Head, Body, put_column, put_term, put_relation, put_equality}
+use Rattle.rules.specs.Code.Scan.{Reader, Draft, Goals, by_effect, body_step, moved_to, turned, turn_by, turn_step, digit_step, draft_step, draft_of, reader_of, digit_reader, turn_reader, reader_step, effect_at, draft_at, relation_step, equality_step, turn_mode}
+use Rattle.rules.specs.declared.mode.Mode.{Mode}
 
 module _ (e : ℕ) (b : Body) (n : ℕ) (cs ns : List ℕ) where
   -- Any other number does nothing.
@@ -29,21 +26,6 @@ module _ (e : ℕ) (b : Body) (n : ℕ) (cs ns : List ℕ) where
       go : (o : Bool) → ◌≡◌ {A = Goals} (b, (cs, ns)) (cond o (b, (cs, ns)) (by_effect e b n cs ns))
       go true = refl
       go false = none e p q r s t u
-
-  -- The effect where no limit is passed.
-  pub step-within : (f : ℕ) → b.over ≡ false → e ≡ f → body_step e b n cs ns ≡ by_effect f b n cs ns
-  step-within f o k = ap (λ p. cond p (b, (cs, ns)) (by_effect e b n cs ns)) o ∙ ap (λ g. by_effect g b n cs ns) k
-
-  -- A term, and what it completes.
-  module _ (c : Body) (ds : List ℕ) (o : b.over ≡ false) where
-    pub step-term : e ≡ 5 → ◌≡◌ {A = Body × List ℕ} (c, ds) (put_term b n cs) → ◌≡◌ {A = Goals} (c, (ds, ns)) (body_step e b n cs ns)
-    step-term k t = ap (λ g. (g.0, (g.1, ns))) t ∙ sym (step-within 5 o k)
-
-    pub step-relation : e ≡ 6 → ◌≡◌ {A = Body × List ℕ} (c, ds) (put_term b n cs) → (r : Body) (ms : List ℕ) → ◌≡◌ {A = Body × List ℕ} (r, ms) (put_relation c ns) → ◌≡◌ {A = Goals} (r, (ds, ms)) (body_step e b n cs ns)
-    step-relation k t r ms f = ap (λ g. (g.0, (ds, g.1))) f ∙ ap (λ g. relation_step (g.0, (g.1, ns))) t ∙ sym (step-within 6 o k)
-
-    pub step-equality : e ≡ 7 → ◌≡◌ {A = Body × List ℕ} (c, ds) (put_term b n cs) → (r : Body) (ms : List ℕ) → ◌≡◌ {A = Body × List ℕ} (r, ms) (put_equality c ns) → ◌≡◌ {A = Goals} (r, (ds, ms)) (body_step e b n cs ns)
-    step-equality k t r ms f = ap (λ g. (g.0, (ds, g.1))) f ∙ ap (λ g. equality_step (g.0, (g.1, ns))) t ∙ sym (step-within 7 o k)
 
 -- A byte in two parts: where the reader stands then, and what becomes of the head and the goals.
 module _ (p : Reader) (h : Head) (b : Body) (c : ℕ) (cs ns : List ℕ) where
@@ -120,6 +102,24 @@ module _ (p : Reader) (h : Head) (b : Body) (c : ℕ) (cs ns : List ℕ) where
       ∙ sym (ap (λ t. cond t (moved_to (next_mode p.mode c) (put_column h p.number) b, (cs, ns)) (turned (next_mode p.mode c) h (body_step e b p.number cs ns))) (ne_eqb e 1 one))
       ∙ sym (ap (λ t. cond t (cond (eqb e 1) (moved_to (next_mode p.mode c) (put_column h p.number) b, (cs, ns)) (turned (next_mode p.mode c) h (body_step e b p.number cs ns))) (moved_to Out h b, (cs, ns))) (suited e q z alive))
       ∙ sym (ap (λ y. turn_by y (next_mode p.mode c) (draft_at p h b) cs ns) z))
+
+-- ---- laws that stand as they stood
+
+module _ (e : ℕ) (b : Body) (n : ℕ) (cs ns : List ℕ) where
+  -- The effect where no limit is passed.
+  pub step-within : (f : ℕ) → b.over ≡ false → e ≡ f → body_step e b n cs ns ≡ by_effect f b n cs ns
+  step-within f o k = ap (λ p. cond p (b, (cs, ns)) (by_effect e b n cs ns)) o ∙ ap (λ g. by_effect g b n cs ns) k
+
+  -- A term, and what it completes.
+  module _ (c : Body) (ds : List ℕ) (o : b.over ≡ false) where
+    pub step-term : e ≡ 5 → ◌≡◌ {A = Body × List ℕ} (c, ds) (put_term b n cs) → ◌≡◌ {A = Goals} (c, (ds, ns)) (body_step e b n cs ns)
+    step-term k t = ap (λ g. (g.0, (g.1, ns))) t ∙ sym (step-within 5 o k)
+
+    pub step-relation : e ≡ 6 → ◌≡◌ {A = Body × List ℕ} (c, ds) (put_term b n cs) → (r : Body) (ms : List ℕ) → ◌≡◌ {A = Body × List ℕ} (r, ms) (put_relation c ns) → ◌≡◌ {A = Goals} (r, (ds, ms)) (body_step e b n cs ns)
+    step-relation k t r ms f = ap (λ g. (g.0, (ds, g.1))) f ∙ ap (λ g. relation_step (g.0, (g.1, ns))) t ∙ sym (step-within 6 o k)
+
+    pub step-equality : e ≡ 7 → ◌≡◌ {A = Body × List ℕ} (c, ds) (put_term b n cs) → (r : Body) (ms : List ℕ) → ◌≡◌ {A = Body × List ℕ} (r, ms) (put_equality c ns) → ◌≡◌ {A = Goals} (r, (ds, ms)) (body_step e b n cs ns)
+    step-equality k t r ms f = ap (λ g. (g.0, (ds, g.1))) f ∙ ap (λ g. equality_step (g.0, (g.1, ns))) t ∙ sym (step-within 7 o k)
 
 -- A byte is below the digits, above them, or one of them.
 module _ {A : Type 0} (c : ℕ) (other digit : A) where

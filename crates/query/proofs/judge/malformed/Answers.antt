@@ -1,0 +1,11 @@
+-- `query::judge::malformed` meets its contract.
+use Rattle.std.proofs.Common.{rules, tests, ◌≡◌, true, false}
+use Rattle.std.proofs.lemmas.Iterator.{IsFirst-from_position, YieldsList-from_slice}
+use Rattle.query.specs.Nodes.{malformed}
+use Rattle.query.proofs.Theory.Reading.Laws.{lowest-position}
+use Rattle.query.proofs.judge.malformed.Goals as goal
+
+pub returns : goal.returns
+returns c =
+    let ns = c.args.nodes.now in let p = malformed in
+    lowest-position p ns c.position.result (IsFirst-from_position _ _ c.position.result (λ x. p x ≡ true) (λ x. p x ≡ false) c.position.ensures.ran (YieldsList-from_slice ns c.iter.ensures.rest) (λ x q k. search (rules, tests)) (λ x q k. search (rules, tests)))

@@ -1,9 +1,0 @@
--- `trials::run_fill` is safe and ends: a record a turn, and at most 65,536 bytes.
-use Rattle.std.proofs.Common.{◌-◌, ◌≤◌}
-use Rattle.trials.proofs.run_fill.Given as goal
-
-abbrev pub invariant-loop-at : goal.invariant-loop-at
-invariant-loop-at l = (l.end ≤ 65536) × (l.at ≤ 65552)
-
-abbrev pub decreases-loop-at : goal.decreases-loop-at
-decreases-loop-at l = 65600 - l.at
