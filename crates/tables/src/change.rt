@@ -61,19 +61,27 @@ fn lower(mut s: Store, k: usize) -> Store
     s
 }
 
-// Causes 13 to 15 and the put, for a caller that has judged the store: only its count matters here.
-pub fn insert(s: Store, r: Record) -> Result<Store, Refusal>
-    requires { s.count ≤ capacity }
-    ensures { changed_of s result ≡ insertion s r }
+// Causes 13 to 15 and the put, into a store that is lent and judged: only its count matters here.
+pub(crate) fn joined(s: &Store, r: Record) -> Result<Store, Refusal>
+    requires { s.now.count ≤ capacity }
+    ensures { changed_of s.now result ≡ insertion s.now r }
 {
     if !layout::record_fits(&s.widths, r) {
         return Err(Refusal::RecordLayout);
     }
-    match locate(&s, r) {
+    match locate(s, r) {
         Ok(_) => Err(Refusal::Held),
         Err(_) if PLACES <= s.count => Err(Refusal::StoreFull),
-        Err(place) => Ok(raise(s, place, r)),
+        Err(place) => Ok(raise(*s, place, r)),
     }
+}
+
+// The same, for a caller that hands the store on.
+pub fn insert(s: Store, r: Record) -> Result<Store, Refusal>
+    requires { s.count ≤ capacity }
+    ensures { changed_of s result ≡ insertion s r }
+{
+    joined(&s, r)
 }
 
 // Causes 13 and 16 and the removal, for a caller that has judged the store: only its count matters here.

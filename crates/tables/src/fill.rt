@@ -2,7 +2,7 @@
 ghost use Rattle.std.specs.Prelude.{◌≡◌};
 ghost use Rattle.tables.specs.Records.{record_of_parts};
 ghost use Rattle.tables.specs.Change.{changed_of};
-ghost use Rattle.tables.specs.Code.Fill.{beginning, collected};
+ghost use Rattle.tables.specs.Code.Fill.{beginning, CollectedBy};
 ghost use Rattle.tables.specs.Fill.{fill_reply};
 ghost use Rattle.tables.specs.Store.{no_store};
 
@@ -31,21 +31,23 @@ pub fn begin(widths: [u8; RELATIONS]) -> Result<Store, Refusal>
     Ok(Store { widths, ..none() })
 }
 
-// A filling with one record more, given by its parts: causes 13 and 15. One that is refused stays so. A store whose count is past the places, which no
-// filling has, is refused with cause 2.
-pub fn collect(
-    f: Result<Store, Refusal>,
+// A filling with one record more, given by its parts: causes 13 and 15. One that is refused stays so, whatever its refusal carries. A store whose count is past
+// the places, which no filling has, is refused with cause 2.
+pub fn collect<E: From<Refusal> + Drop>(
+    f: Result<Store, E>,
     relation: u8,
     first: u32,
     second: u32,
     third: u32,
     fourth: u32,
-) -> Result<Store, Refusal>
-    ensures { changed_of no_store result ≡ collected (changed_of no_store f) (record_of_parts relation first second third fourth) }
+) -> Result<Store, E>
+    ensures { CollectedBy E.from_gives f (record_of_parts relation first second third fourth) result }
 {
-    let s = f?;
+    let Ok(s) = &f else {
+        return f;
+    };
     if PLACES < s.count {
-        return Err(Refusal::StoreLayout);
+        return Err(E::from(Refusal::StoreLayout));
     }
     let r = Record {
         relation,
@@ -54,9 +56,10 @@ pub fn collect(
         third,
         fourth,
     };
-    match change::insert(s, r) {
-        Err(Refusal::Held) => Ok(s),
-        added => added,
+    match change::joined(s, r) {
+        Ok(t) => Ok(t),
+        Err(Refusal::Held) => f,
+        Err(cause) => Err(E::from(cause)),
     }
 }
 

@@ -57,11 +57,13 @@ fn highest(relation: u8, width: u8) -> Record
 fn continues(limit: Record, last: Record, next: Record) -> bool
     ensures { result ≡ within limit next && record_below last next }
 {
-    next.relation == limit.relation
-        && next.second <= limit.second
-        && next.third <= limit.third
-        && next.fourth <= limit.fourth
-        && last < next
+    if next.relation != limit.relation {
+        return false;
+    }
+    if limit.second < next.second || limit.third < next.third || limit.fourth < next.fourth {
+        return false;
+    }
+    last < next
 }
 
 // The end of the run of a relation that starts at a place: the first place after it whose record doesn't go on with the one before, or the count.

@@ -1,5 +1,5 @@
 -- Laws of filling: to collect the records one by one comes to the filling of document 01, and what that filling gives.
-use Rattle.std.specs.Prelude.{ℕ, ◌<◌, ◌≤◌, ◌+◌, ◌≡◌, refl, ◌↔◌, ◌⊎◌, Bool, true, false, not, ◌&&◌, List, [], ◌∷◌, ◌++◌, map, length, take, get_or, T}
+use Rattle.std.specs.Prelude.{ℕ, ◌<◌, ◌≤◌, ◌+◌, ◌≡◌, refl, ◌↔◌, ◌⊎◌, Bool, true, false, not, ◌&&◌, List, [], ◌∷◌, ◌++◌, map, length, take, get_or, T, Result, Ok, Err}
 use Rattle.std.proofs.Common.{arith, sym, ap, subst, ◌∙◌, inl, inr, ⊎_elim, take-suc, take_all, add-one}
 use Rattle.std.proofs.Math.Path.{subst⁻¹}
 use Rattle.std.proofs.Math.Logic.Iff
@@ -10,11 +10,12 @@ use Rattle.calculus.proofs.Theory.Order.Laws.{from-insert, in_insert, insert-asc
 use Rattle.calculus.specs.Reflects.{Reflects, holds, fails}
 use Rattle.calculus.proofs.Theory.Reflects.Laws.{reflects-T, reflects-false, reflects-ltb}
 use Rattle.calculus.specs.Satisfaction.{Fact}
+use Rattle.causes.specs.declared.Refusal.{Refusal}
 use Rattle.causes.specs.Causes.{Answer, Done, Refused, check, first_cause, when, widths_fit}
 use Rattle.causes.proofs.Theory.Causes.Laws.{first-clear, first-passed}
 use Rattle.tables.specs.declared.Record.{Record}
 use Rattle.tables.specs.declared.Store.{Store}
-use Rattle.tables.specs.Change.{Changed, is_held, reply}
+use Rattle.tables.specs.Change.{Changed, changed_of, is_held, reply}
 use Rattle.tables.specs.Records.{record_below, fits, fact_of}
 use Rattle.tables.proofs.Theory.Records.Laws.{record-order}
 use Rattle.tables.specs.Store.{capacity, facts, has_room, have_room, store_of, no_store, Layout}
@@ -23,7 +24,7 @@ use Rattle.tables.proofs.Theory.Store.Laws.{held-store-of, facts-store-of, layou
 use Rattle.tables.specs.Code.Change.{insertion}
 use Rattle.tables.proofs.Theory.Change.Laws.{reflects-held, insertion-in_layout}
 use Rattle.tables.specs.Fill.{unless_refused, fill_checks, fill_from, fill_reply}
-use Rattle.tables.specs.Code.Fill.{beginning, merged, collected, collect_all}
+use Rattle.tables.specs.Code.Fill.{beginning, merged, collected, collect_all, filling_of, CollectedBy}
 
 -- ---- collecting
 
@@ -35,6 +36,22 @@ collect-last f (q ∷ rs) r = collect-last (collected f q) rs r
 collect-refused : (n p : ℕ) (s : Store) (rs : List Record) → collect_all (record { answer = Refused n p; store = s }) rs ≡ record { answer = Refused n p; store = s }
 collect-refused n p s [] = refl
 collect-refused n p s (r ∷ rs) = collect-refused n p s rs
+
+-- A record more in a filling whose refusals tell an answer and a store of any kind: one that is refused stays so, with both.
+pub collected-filling : {E : Type 0} {gives : Refusal → E → Type 0} (told : E → Changed) → ((e : E) (r : Record) → collected (told e) r ≡ told e) → ((c : Refusal) (e : E) → gives c e → told e ≡ changed_of no_store (Err c)) → (f now : Result Store E) (r : Record) → CollectedBy gives f r now → filling_of told now ≡ collected (filling_of told f) r
+collected-filling told stays says (Ok s) (Ok t) r h = sym h
+collected-filling told stays says (Ok s) (Err e) r h = says h.0 e h.2 ∙ sym h.1
+collected-filling told stays says (Err e) now r h = ap (filling_of told) h ∙ sym (stays e r)
+
+-- The same where the refusal is a cause alone: it hands back no store.
+pub collected-told : (f now : Result Store Refusal) (r : Record) → CollectedBy (λ c e. e ≡ c) f r now → changed_of no_store now ≡ collected (changed_of no_store f) r
+collected-told f now r h = sym (same now) ∙ collected-filling told (λ e r. refl) (λ c e. ap told) f now r h ∙ ap (λ g. collected g r) (same f)
+  where
+    told : Refusal → Changed
+    told e = changed_of no_store (Err e)
+    same : (g : Result Store Refusal) → filling_of told g ≡ changed_of no_store g
+    same (Ok s) = refl
+    same (Err e) = refl
 
 -- Records that a store may hold.
 record Holdable (ws : List ℕ) (ps : List Record) : Type 0 where
