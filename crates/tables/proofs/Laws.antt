@@ -1,9 +1,9 @@
 -- Laws of values that the proofs hand their facts to: the tests as the code makes them, what the records from place i on decide, the loops of raise
 -- and lower, and the answers of each way out.
-use Prim.Native.Nat.{ℕ, zero, suc, ◌+◌, ◌<◌, ◌≤◌}
+use Prim.Native.Nat.{ℕ, zero, suc, ◌+◌, ◌-◌, ◌<◌, ◌≤◌}
 use native.Mathlib.Omega.{arith}
 use native.Mathlib.Numerals.{add-one}
-use mathlib.Core.Path.{◌≡◌, refl, sym, ap, ◌∙◌}
+use mathlib.Core.Path.{◌≡◌, refl, sym, ap, subst⁻¹, ◌∙◌}
 use mathlib.Core.Logic.{◌≢◌}
 use mathlib.Core.Bool.{Bool, true, false, not, ◌&&◌, cond, and-false}
 use mathlib.Core.List.{List, [], ◌∷◌, ◌++◌}
@@ -15,19 +15,20 @@ use borrow.Author.Tests.{lt-ltb, le-ltb, le-leb, eq-eqb, ne_eqb, eqb-true, eqb-f
 use Rattle.calculus.specs.Sets.{all_of}
 use Rattle.calculus.proofs.Theory.Order.Laws.{below-differ}
 use Rattle.calculus.proofs.Theory.Reflects.Laws.{reflects-true, reflects-T}
-use Rattle.causes.specs.Causes.{Done, Refused, widths_fit}
+use Rattle.causes.specs.Causes.{Answer, Done, Refused, check, first_cause, when, widths_fit}
 use Rattle.tables.specs.declared.Record.{Record}
 use Rattle.tables.specs.declared.Store.{Store}
-use Rattle.tables.specs.Change.{Changed, rank}
+use Rattle.tables.specs.Change.{Changed, reply, rank}
 use Rattle.tables.specs.Records.{record_below, same_record, width, fits, values_of, is_blank, blank}
-use Rattle.tables.specs.Store.{capacity, places, record_at, held, unused, has_room, have_room, judgement, of_places}
+use Rattle.tables.specs.Store.{capacity, places, places_of, record_at, held, unused, has_room, have_room, judgement, of_places, no_store}
 use Rattle.tables.specs.Code.Store.{set_values}
 use Rattle.tables.specs.Code.Layout.{orderly}
 use Rattle.tables.proofs.Theory.Store.Room.{few-room}
 use Rattle.tables.proofs.Theory.Store.Laws.{length-places, length-held}
 use Rattle.calculus.proofs.Theory.Lists.Laws.{tested}
 use Rattle.tables.proofs.Theory.Store.Places.{getD-first, length_set_values, places-set, insert-at, remove-at, insert-at-next, insert-at-end, insert-at-split, remove-at-next, remove-at-end, remove-at-split, store-placed}
-use Rattle.tables.specs.Code.Change.{located, found, raised, lowered, insertion}
+use Rattle.tables.specs.Code.Change.{located, found, raised, lowered, insertion, deletion}
+use Rattle.tables.specs.Code.Fill.{collected_into, collected}
 
 -- ---- the order of records, from the front
 
@@ -173,12 +174,15 @@ raise-end rs vs i carried before k r h e = sym (insert-at-end (places rs vs) car
 
 -- ---- the answers, from what the tests say
 
--- The records of a count in range have room.
-pub judged-done : (s : Store) → widths_fit s.widths ≡ true → s.count ≤ capacity → orderly s.widths (held s) ≡ true → all_of is_blank (unused s) ≡ true → Done ≡ judgement s
-judged-done s w h e f = rw (w, le-leb s.count capacity h, room, e, f)
-  where
-    room : have_room (held s) ≡ true
-    room = reflects-true (reflects-T (have_room (held s))) (few-room (held s) (omega (arith, length-held s h)))
+module _ (s : Store) (w : widths_fit s.widths ≡ true) where
+  module _ (h : s.count ≤ capacity) where
+    -- The records of a count in range have room.
+    counted-room : have_room (held s) ≡ true
+    counted-room = reflects-true (reflects-T (have_room (held s))) (few-room (held s) (omega (arith, length-held s h)))
+
+    -- A store whose records are in order, with blanks after them, is judged good.
+    pub judged-done : orderly s.widths (held s) ≡ true → all_of is_blank (unused s) ≡ true → Done ≡ judgement s
+    judged-done e f = rw (w, le-leb s.count capacity h, counted-room, e, f)
 
 -- Where a record is found, by its place.
 module _ (s : Store) (r : Record) {k : ℕ} (e : k ≡ rank r (held s)) where
@@ -209,10 +213,75 @@ found-told s r x k h e l t g =
     let here = getD-first s.relations s.values s.count h k l in
     sym (found-place r (held s) k e (omega (arith, length-held s h))) ∙ tested (λ (p : Record). same_record p r) t (g ∙ sym here)
 
--- A store has no room for a record more, as the code tests it by the count.
-pub count-full : (s : Store) (r : Record) → s.count ≤ capacity → capacity ≤ s.count → has_room r (held s) ≡ false
-count-full s r c h = le-ltb (length (held s)) capacity (omega (arith, length-held s c))
+-- Whether a record has room, as the code tests it by the count.
+module _ (s : Store) (r : Record) (c : s.count ≤ capacity) where
+  -- Where all places are taken it has none,
+  pub count-full : capacity ≤ s.count → has_room r (held s) ≡ false
+  count-full h = le-ltb (length (held s)) capacity (omega (arith, length-held s c))
 
-pub insertion-full : (s : Store) (r : Record) → fits s.widths r ≡ true → found r (held s) ≡ false → has_room r (held s) ≡ false
-    → ◌≡◌ {A = Changed} (record { answer = Refused 15 0; store = s }) (insertion s r)
-insertion-full s r e f h = rw (e, f, h)
+  -- and where one is left it has.
+  pub count_room : s.count < capacity → has_room r (held s) ≡ true
+  count_room h = lt-ltb (length (held s)) capacity (omega (arith, length-held s c))
+
+-- An answer and a store.
+abbrev changed : Answer → Store → Changed
+changed a s = record { answer = a; store = s }
+
+module _ (s : Store) (r : Record) where
+  -- A put and a removal of a record that doesn't fit: refused with 13, and the store as it was.
+  pub insertion-unfit : fits s.widths r ≡ false → changed (Refused 13 0) s ≡ insertion s r
+  insertion-unfit e = rw e
+
+  pub deletion-unfit : fits s.widths r ≡ false → changed (Refused 13 0) s ≡ deletion s r
+  deletion-unfit e = rw e
+
+  module _ (e : fits s.widths r ≡ true) where
+    -- A put of a record that is held: refused with 14, and the store as it was.
+    pub insertion-held : found r (held s) ≡ true → changed (Refused 14 0) s ≡ insertion s r
+    insertion-held f = rw (e, f)
+
+    -- A put of one that has no room: refused with 15, and the store as it was.
+    pub insertion-full : found r (held s) ≡ false → has_room r (held s) ≡ false → changed (Refused 15 0) s ≡ insertion s r
+    insertion-full f h = rw (e, f, h)
+
+    -- A put of one that fits, isn't held and has room: done, with the record at its place.
+    pub insertion-done : found r (held s) ≡ false → has_room r (held s) ≡ true → (k : ℕ) (t : Store) → k ≡ rank r (held s) → t ≡ of_places s.widths (raised (places_of s) k r) (s.count + 1) → changed Done t ≡ insertion s r
+    insertion-done f h k t g i = rw (e, f, h) (ap (changed Done) (i ∙ ap (λ (j : ℕ). of_places s.widths (raised (places_of s) j r) (s.count + 1)) g))
+
+    -- A removal of a record that isn't held: refused with 16, and the store as it was.
+    pub deletion-none : found r (held s) ≡ false → changed (Refused 16 0) s ≡ deletion s r
+    deletion-none f = rw (e, f)
+
+    -- A removal of one that is held: done, without the record at its place.
+    pub deletion-done : found r (held s) ≡ true → (k : ℕ) (t : Store) → k ≡ rank r (held s) → t ≡ of_places s.widths (lowered (places_of s) k) (s.count - 1) → changed Done t ≡ deletion s r
+    deletion-done f k t g i = rw (e, f) (ap (changed Done) (i ∙ ap (λ (j : ℕ). of_places s.widths (lowered (places_of s) j) (s.count - 1)) g))
+
+-- Whether a refusal is for a record that doesn't fit.
+abbrev pub unfit : Answer → Bool
+unfit Done = false
+unfit (Refused n p) = eqb n 13
+
+-- What a put and a removal answer tells whether the record fits: each is refused with 13 exactly where it doesn't.
+module _ (s : Store) (r : Record) where
+  pub spot-fits : (fits s.widths r ≡ not (unfit (insertion s r).answer)) × (fits s.widths r ≡ not (unfit (deletion s r).answer))
+  spot-fits = (
+    of-put (fits s.widths r) (found r (held s)) (not (has_room r (held s))) (of_places s.widths (raised (places_of s) (rank r (held s)) r) (s.count + 1)),
+    of-removal (fits s.widths r) (not (found r (held s))) (of_places s.widths (lowered (places_of s) (rank r (held s))) (s.count - 1)),
+  )
+    where
+      of-put : (f h m : Bool) (t : Store) → f ≡ not (unfit (reply (first_cause (check 13 (when (not f)) ∷ check 14 (when h) ∷ check 15 (when m) ∷ [])) s t).answer)
+      of-put false h m t = refl
+      of-put true true m t = refl
+      of-put true false true t = refl
+      of-put true false false t = refl
+
+      of-removal : (f m : Bool) (t : Store) → f ≡ not (unfit (reply (first_cause (check 13 (when (not f)) ∷ check 16 (when m) ∷ [])) s t).answer)
+      of-removal false m t = refl
+      of-removal true true t = refl
+      of-removal true false t = refl
+
+module _ (f : Changed) (r : Record) where
+  module _ (e : f.answer ≡ Done) where
+    -- A record more for a store whose count is past the places: refused with 2, and no store.
+    pub collected-over : capacity < f.store.count → (s : Store) → s ≡ no_store → changed (Refused 2 0) s ≡ collected f r
+    collected-over h s k = subst⁻¹ (λ (a : Answer). changed (Refused 2 0) s ≡ collected_into f a r) e (rw (lt-ltb capacity f.store.count h) (ap (changed (Refused 2 0)) k))

@@ -1,14 +1,15 @@
 -- Laws of values that the proofs of `generate` hand their facts to: a node of the kinds that a match leaves over, what an equation of two variables equates,
 -- and the loop over nodes.
-use Prim.Native.Nat.{ℕ, ◌+◌, ◌<◌}
+use Prim.Native.Nat.{ℕ, zero, suc, ◌+◌, ◌<◌}
 use native.Mathlib.Omega.{arith}
 use mathlib.Core.Path.{◌≡◌, refl, ap, ◌∙◌}
-use mathlib.Core.List.{List}
+use mathlib.Core.List.{List, [], ◌∷◌}
 use lib.ListN.{get_or, set}
+use lib.Bits.{bit_and, bit_or}
 use Rattle.calculus.specs.Sets.{In}
 use Rattle.calculus.specs.Lists.{tabulate, padded}
 use Rattle.calculus.proofs.Theory.Lists.Laws.{padded-at, padded-next}
-use Rattle.query.specs.Nodes.{kind, children}
+use Rattle.query.specs.Nodes.{kind, left, right, children}
 use Rattle.query.specs.Reading.{max_nodes}
 use Rattle.query.specs.Code.Fields.{IsNode}
 use Rattle.query.specs.declared.node.Node.{Node}
@@ -29,6 +30,38 @@ no-exists w (Join And l r) h f e = omega (arith, h.0)
 no-exists w (Join Or l r) h f e = omega (arith, h.0)
 no-exists w (Exists x c) h f e = f x c refl
 no-exists w Unknown h f e = omega arith
+
+-- ---- the last kind: what 32 bits leave past the others
+
+-- A node of none of the seven kinds is of the eighth: the field has three bits.
+pub kind-seven : (w : ℕ) → w < 4294967296 → (kind w ≡ 0 → ⊥) → (kind w ≡ 1 → ⊥) → (kind w ≡ 2 → ⊥) → (kind w ≡ 3 → ⊥) → (kind w ≡ 4 → ⊥) → (kind w ≡ 5 → ⊥) → (kind w ≡ 6 → ⊥) → kind w ≡ 7
+kind-seven w h = go (kind w) (omega arith)
+  where
+    go : (k : ℕ) → k < 8 → (k ≡ 0 → ⊥) → (k ≡ 1 → ⊥) → (k ≡ 2 → ⊥) → (k ≡ 3 → ⊥) → (k ≡ 4 → ⊥) → (k ≡ 5 → ⊥) → (k ≡ 6 → ⊥) → k ≡ 7
+    go zero l p q r s t u v = absurd (p refl)
+    go (suc zero) l p q r s t u v = absurd (q refl)
+    go (suc (suc zero)) l p q r s t u v = absurd (r refl)
+    go (suc (suc (suc zero))) l p q r s t u v = absurd (s refl)
+    go (suc (suc (suc (suc zero)))) l p q r s t u v = absurd (t refl)
+    go (suc (suc (suc (suc (suc zero))))) l p q r s t u v = absurd (u refl)
+    go (suc (suc (suc (suc (suc (suc zero)))))) l p q r s t u v = absurd (v refl)
+    go (suc (suc (suc (suc (suc (suc (suc k))))))) l p q r s t u v = omega arith
+
+-- ---- a node that is no not, and, or
+
+-- Its denied set is empty.
+pub denied-none : (w : ℕ) (plains denieds : ℕ → ℕ) → (kind w ≡ 3 → ⊥) → (kind w ≡ 4 → ⊥) → (kind w ≡ 5 → ⊥) → denied_in w plains denieds ≡ 0
+denied-none w plains denieds = go (kind w)
+  where
+    go : (k : ℕ) → (k ≡ 3 → ⊥) → (k ≡ 4 → ⊥) → (k ≡ 5 → ⊥) → get_or (0 ∷ 0 ∷ 0 ∷ plains (left w) ∷ bit_and (denieds (left w)) (denieds (right w)) ∷ bit_or (denieds (left w)) (denieds (right w)) ∷ 0 ∷ []) k 0 ≡ 0
+    go zero p q r = refl
+    go (suc zero) p q r = refl
+    go (suc (suc zero)) p q r = refl
+    go (suc (suc (suc zero))) p q r = absurd (p refl)
+    go (suc (suc (suc (suc zero)))) p q r = absurd (q refl)
+    go (suc (suc (suc (suc (suc zero))))) p q r = absurd (r refl)
+    go (suc (suc (suc (suc (suc (suc zero)))))) p q r = refl
+    go (suc (suc (suc (suc (suc (suc (suc k))))))) p q r = refl
 
 -- ---- the loop over nodes: the arrays hold the sets of the first i, and zeros after them
 

@@ -1,5 +1,5 @@
 -- Laws of room: records that have room are no more than the places, a record that has room may join them, and any may leave. Beside these laws only
--- three know that the number of records decides it: those of the code's tests (`count-full` and `judged-done` in the proofs' Laws.antt), and the one
+-- four know that the number of records decides it: those of the code's tests (`count-full`, `count_room` and `counted-room` in the proofs' Laws.antt), and the one
 -- beside the ledger's words (`reflects-full` in standing's Ledger/Ties). `few-room` is so only while nothing else decides it.
 use Rattle.std.specs.Prelude.{◌<◌, ◌≤◌, Bool, not, List, [], ◌∷◌, length, T}
 use Rattle.std.proofs.Common.{arith}

@@ -1,5 +1,5 @@
 -- Laws of sets of variables as numbers: what the code's sets hold is what is free in the formulas.
-use Rattle.std.specs.Prelude.{ℕ, zero, suc, ◌+◌, ◌-◌, ◌*◌, ◌/◌, ◌%◌, ◌^◌, ◌≤◌, ◌<◌, max, ◌≡◌, refl, Bool, true, false, not, ◌&&◌, ◌||◌, cond, List, [], ◌∷◌, map, length, get_or, take, set, replicate, eqb}
+use Rattle.std.specs.Prelude.{ℕ, zero, suc, ◌+◌, ◌-◌, ◌*◌, ◌/◌, ◌%◌, ◌^◌, ◌≤◌, ◌<◌, max, ◌≡◌, refl, Bool, true, false, not, ◌&&◌, ◌||◌, cond, List, [], ◌∷◌, map, length, get_or, take, set, replicate, eqb, ltb}
 use Rattle.std.proofs.Common.{pow-suc, arith, sym, ap, subst, ◌∙◌, ne_eqb, take_all, ⊎_elim, eq-eqb, lt-ltb}
 use Rattle.std.specs.Int.Bits.{or_zero_r, bit_or, bit_xor, or_step, xor_step, differ}
 use Rattle.std.proofs.lemmas.List.{length-map}
@@ -10,10 +10,11 @@ use Rattle.std.proofs.Math.Dec.{eqb-suc-suc}
 use Rattle.std.proofs.Math.Nat.{div-one, div-div-eq-div-mul, pow-succ'}
 use Rattle.calculus.specs.Reflects.{Reflects, holds, fails}
 use Rattle.calculus.proofs.Theory.Reflects.Laws.{reflects-ltb}
-use Rattle.calculus.specs.Sets.{member}
+use Rattle.calculus.specs.Sets.{any_of, member}
 use Rattle.calculus.specs.Formula.{fv, Fmla}
 use Rattle.query.specs.Nodes.{kind, term_count, terms, variable, equal_term, left, right, under}
 use Rattle.query.specs.Decoding.{root}
+use Rattle.query.specs.Code.Fields.{itself}
 use Rattle.query.specs.Code.Free.{joined_with, free_in, in_set, term_bit, term_bits, without, set_in, SetOf}
 use Rattle.query.proofs.Theory.Code.Free.Laws.{found_in, Marks, marks-more, marks-root}
 use Rattle.query.proofs.Theory.Nodes.Laws.{two-or}
@@ -72,18 +73,45 @@ in-power zero (suc t) = let e : 2 ^ suc t % 2 ≡ 0 = omega (arith, pow-suc 2 t)
 in-power (suc x) zero = in-none x ∙ sym (ne_eqb (suc x) 0 (λ q. omega arith))
 in-power (suc x) (suc t) = let e : 2 ^ suc t / 2 ≡ 2 ^ t = omega (arith, pow-suc 2 t) in ap (in_set x) e ∙ in-power x t ∙ sym (eqb-suc-suc x t)
 
-in-term : (x t : ℕ) → x < 16 → in_set x (term_bit true t) ≡ eqb x t
-in-term x t h = go (reflects-ltb t 16)
+-- The bit of a term is the set of the variable that it is; one that isn't used has none.
+in-term : (x : ℕ) (used : Bool) (t : ℕ) → x < 16 → in_set x (term_bit used t) ≡ (used && eqb x t)
+in-term x false t h = in-none x
+in-term x true t h = go (reflects-ltb t 16)
   where
     go : {b : Bool} → Reflects (t < 16) b → in_set x (cond b (2 ^ t) 0) ≡ eqb x t
     go (holds l) = in-power x t
     go (fails l) = in-none x ∙ sym (ne_eqb x t (λ e. omega arith))
 
+-- Of four tests the first n, one after the other.
+first-tests : (n : ℕ) (p q r s : Bool) → ((((ltb 0 n && p) || (ltb 1 n && q)) || (ltb 2 n && r)) || (ltb 3 n && s)) ≡ any_of itself (take n (p ∷ q ∷ r ∷ s ∷ []))
+first-tests zero p q r s = refl
+first-tests (suc zero) true q r s = refl
+first-tests (suc zero) false q r s = refl
+first-tests (suc (suc zero)) true q r s = refl
+first-tests (suc (suc zero)) false true r s = refl
+first-tests (suc (suc zero)) false false r s = refl
+first-tests (suc (suc (suc zero))) true q r s = refl
+first-tests (suc (suc (suc zero))) false true r s = refl
+first-tests (suc (suc (suc zero))) false false true s = refl
+first-tests (suc (suc (suc zero))) false false false s = refl
+first-tests (suc (suc (suc (suc n)))) p q r s =
+    let m = suc (suc (suc (suc n))) in
+    (λ i. (((lt-ltb 0 m (omega arith) i && p) || (lt-ltb 1 m (omega arith) i && q)) || (lt-ltb 2 m (omega arith) i && r)) || (lt-ltb 3 m (omega arith) i && s))
+    ∙ all-four n p q r s
+  where
+    all-four : (n : ℕ) (p q r s : Bool) → (((p || q) || r) || s) ≡ any_of itself (take (suc (suc (suc (suc n)))) (p ∷ q ∷ r ∷ s ∷ []))
+    all-four n true q r s = refl
+    all-four n false true r s = refl
+    all-four n false false true s = refl
+    all-four n false false false true = refl
+    all-four zero false false false false = refl
+    all-four (suc n) false false false false = refl
+
 in-joined : (x s : ℕ) (ts : List ℕ) → x < 16 → in_set x (joined_with s ts) ≡ (in_set x s || member x ts)
 in-joined x s [] h = sym (or-false (in_set x s))
 in-joined x s (t ∷ ts) h =
     in-joined x (bit_or s (term_bit true t)) ts h
-    ∙ ap (λ b. b || member x ts) (in-or x s (term_bit true t) ∙ ap (λ b. in_set x s || b) (in-term x t h))
+    ∙ ap (λ b. b || member x ts) (in-or x s (term_bit true t) ∙ ap (λ b. in_set x s || b) (in-term x true t h))
     ∙ or_assoc (in_set x s) (eqb x t) (member x ts)
 
 -- Of four terms the first n, joined one after the other.
@@ -114,8 +142,8 @@ in-terms x n a b c d h =
 in_without : (x y s : ℕ) → x < 16 → in_set x (without y s) ≡ (not (eqb x y) && in_set x s)
 in_without x y s h =
     by_bits bit_xor differ other xor_step xor-digit x (bit_or s (term_bit true y)) (term_bit true y)
-    ∙ (λ i. other (in-or x s (term_bit true y) i) (in-term x y h i))
-    ∙ (λ i. other (in_set x s || in-term x y h i) (eqb x y))
+    ∙ (λ i. other (in-or x s (term_bit true y) i) (in-term x true y h i))
+    ∙ (λ i. other (in_set x s || in-term x true y h i) (eqb x y))
     ∙ taken_out (in_set x s) (eqb x y)
   where
     taken_out : (p q : Bool) → other (p || q) q ≡ (not q && p)
@@ -133,7 +161,7 @@ set_free x w child h = go (kind w)
     go : (k : ℕ) → in_set x (get_or (0 ∷ term_bits (term_count w) (terms w) ∷ bit_or (term_bit true (variable w)) (term_bit true (equal_term w)) ∷ child (left w) ∷ bit_or (child (left w)) (child (right w)) ∷ bit_or (child (left w)) (child (right w)) ∷ without (variable w) (child (under w)) ∷ []) k 0) ≡ found_in x w (λ c. in_set x (child c)) k
     go zero = in-none x
     go (suc zero) = in-terms x (term_count w) (get_or (terms w) 0 0) (get_or (terms w) 1 0) (get_or (terms w) 2 0) (get_or (terms w) 3 0) h
-    go (suc (suc zero)) = in-or x (term_bit true (variable w)) (term_bit true (equal_term w)) ∙ (λ i. in-term x (variable w) h i || in-term x (equal_term w) h i)
+    go (suc (suc zero)) = in-or x (term_bit true (variable w)) (term_bit true (equal_term w)) ∙ (λ i. in-term x true (variable w) h i || in-term x true (equal_term w) h i)
     go (suc (suc (suc zero))) = refl
     go (suc (suc (suc (suc zero)))) = in-or x (child (left w)) (child (right w))
     go (suc (suc (suc (suc (suc zero))))) = in-or x (child (left w)) (child (right w))
