@@ -95,7 +95,8 @@ fn variable(b: Body, x: u64) -> Option<Body>
 // The number is a value, as the next term. It is a constant from now on, if it isn't one yet.
 fn constant(b: Body, x: u64, constants: &mut [u32; CONSTANTS]) -> Option<Body>
     requires { b.count < 4 }
-    ensures { beside result constants.new ≡ within (put_constant (body_from b) x constants.old) }
+    ensures kept { beside result constants.new ≡ within (put_constant (body_from b) x constants.old) }
+    ensures lent { constants.new ≡ (put_constant (body_from b) x constants.old).1 }
 {
     let value = u32::try_from(x).ok()?;
     let p = place(value, &constants[..b.constants]);
@@ -114,7 +115,8 @@ fn constant(b: Body, x: u64, constants: &mut [u32; CONSTANTS]) -> Option<Body>
 
 // The number is the next term.
 pub fn term(b: Body, x: u64, constants: &mut [u32; CONSTANTS]) -> Option<Body>
-    ensures { beside result constants.new ≡ within (put_term (body_from b) x constants.old) }
+    ensures kept { beside result constants.new ≡ within (put_term (body_from b) x constants.old) }
+    ensures lent { constants.new ≡ (put_term (body_from b) x constants.old).1 }
 {
     if TERMS <= b.count {
         return None;
@@ -162,7 +164,8 @@ fn append(w: u32, denied: bool, n: usize, nodes: &mut [u32; NODES]) -> Option<us
 
 // The goal that w is the node of is complete, and the next one can be read.
 fn settle(b: Body, w: u32, nodes: &mut [u32; NODES]) -> Option<Body>
-    ensures { beside result nodes.new ≡ within (settled (body_from b) w nodes.old) }
+    ensures kept { beside result nodes.new ≡ within (settled (body_from b) w nodes.old) }
+    ensures lent { nodes.new ≡ (settled (body_from b) w nodes.old).1 }
 {
     let end = append(w, b.denied, b.nodes, nodes)?;
     let mut e = b;
@@ -176,7 +179,8 @@ fn settle(b: Body, w: u32, nodes: &mut [u32; NODES]) -> Option<Body>
 
 // The relation is complete.
 pub fn relation(b: Body, nodes: &mut [u32; NODES]) -> Option<Body>
-    ensures { beside result nodes.new ≡ within (put_relation (body_from b) nodes.old) }
+    ensures kept { beside result nodes.new ≡ within (put_relation (body_from b) nodes.old) }
+    ensures lent { nodes.new ≡ (put_relation (body_from b) nodes.old).1 }
 {
     if HIGHEST < b.subject {
         return None;
@@ -187,7 +191,8 @@ pub fn relation(b: Body, nodes: &mut [u32; NODES]) -> Option<Body>
 
 // The equality is complete.
 pub fn equality(b: Body, nodes: &mut [u32; NODES]) -> Option<Body>
-    ensures { beside result nodes.new ≡ within (put_equality (body_from b) nodes.old) }
+    ensures kept { beside result nodes.new ≡ within (put_equality (body_from b) nodes.old) }
+    ensures lent { nodes.new ≡ (put_equality (body_from b) nodes.old).1 }
 {
     if HIGHEST < b.subject {
         return None;

@@ -90,7 +90,8 @@ pub fn effect(mode: Mode, b: u8) -> Effect
     }
 }
 
-// What a byte does to the goals. Nothing is kept of goals past a limit.
+// What a byte does to the goals. Nothing is kept of goals past a limit. Of a relation or an equality whose last term is past one the node is still written, with the
+// terms that it has.
 pub fn goals(
     effect: Effect,
     b: Body,
@@ -98,7 +99,8 @@ pub fn goals(
     constants: &mut [u32; CONSTANTS],
     nodes: &mut [u32; NODES],
 ) -> Option<Body>
-    ensures { beside result (constants.new, nodes.new) ≡ within (body_step (effect_number effect) (body_from b) number constants.old nodes.old) }
+    ensures kept { beside result (constants.new, nodes.new) ≡ within (body_step (effect_number effect) (body_from b) number constants.old nodes.old) }
+    ensures lent { (constants.new, nodes.new) ≡ (body_step (effect_number effect) (body_from b) number constants.old nodes.old).1 }
 {
     let mut e = b;
     match effect {
@@ -108,11 +110,17 @@ pub fn goals(
         Effect::Named => e.named = true,
         Effect::Term => return draft::term(b, number, constants),
         Effect::Relation => {
-            let whole = draft::term(b, number, constants)?;
+            let Some(whole) = draft::term(b, number, constants) else {
+                draft::relation(b, nodes);
+                return None;
+            };
             return draft::relation(whole, nodes);
         }
         Effect::Equality => {
-            let whole = draft::term(b, number, constants)?;
+            let Some(whole) = draft::term(b, number, constants) else {
+                draft::equality(b, nodes);
+                return None;
+            };
             return draft::equality(whole, nodes);
         }
     }

@@ -36,7 +36,7 @@ loop-i-preserved c =
           (told-column-past l.invariant c.loop-i-test.true c.step-here.result c.step-here.ensures alive c.effect.result c.effect.ensures w.in-Column.is w.in_default-head.is)
       | in_default+in-Some-body w ↦
           told-as w.head-is w.body-is w.constants-is w.nodes-is
-          (told-goals l.invariant c.loop-i-test.true c.step-here.result c.step-here.ensures alive c.effect.result c.effect.ensures w.in_default.not-Nothing w.in_default.not-Column w.in-Some-body.g w.in-Some-body.is c.unwrap_or-number.result c.unwrap_or-number.ensures w.goals-body.result w.goals-body.new.constants w.goals-body.new.nodes w.goals-body.ensures)
+          (told-goals l.invariant c.loop-i-test.true c.step-here.result c.step-here.ensures alive c.effect.result c.effect.ensures w.in_default.not-Nothing w.in_default.not-Column w.in-Some-body.g w.in-Some-body.is c.unwrap_or-number.result c.unwrap_or-number.ensures w.goals-body.result w.goals-body.new.constants w.goals-body.new.nodes w.goals-body.ensures.kept)
       | in_default+in_default-body w ↦
           told-as w.head-is w.body-is w.constants-is w.nodes-is
           (told-goals-past l.invariant c.loop-i-test.true c.step-here.result c.step-here.ensures alive c.effect.result c.effect.ensures w.in_default.not-Nothing w.in_default.not-Column w.in_default-body.is)
