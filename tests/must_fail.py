@@ -25,6 +25,7 @@ Fails where
 - docs/PROMISES.md leaves a wrong program out, or cites a name that no wrong program, no function and no definition has.
 """
 import concurrent.futures
+import functools
 import os
 import pathlib
 import re
@@ -88,34 +89,55 @@ class Program:
         return {function_at(self.path.parent.parent, file, old) for file, old, _ in self.changes}
 
 
+@functools.cache
+def functions_of(crate):
+    """The functions of a crate with a body: the end of their proofs' paths, each with its source file, where its text starts and ends there, and the name of its cycle.
+    The path is module/function, or module/Type/function of a method, with the trait's name behind the type's where it is a trait's. A function that a trait only
+    declares ends in a semicolon, and has no text of its own."""
+    found = {}
+    for path in (crate / "src").glob("*.rt"):
+        source, module = path.read_text(), [] if path.stem in ("lib", "main") else [path.stem]
+        types = [*re.finditer(r"^impl(?:<[^>]*>)? (?:(\w+) for )?(\w+).*?^\}$", source, re.M | re.S)]
+        for f in re.finditer(r"^( *)(?:pub )?(?:extern \"C\" )?fn (\w+)(?:(?![{;]$).)*\{$.*?^\1\}$", source, re.M | re.S):
+            method = [t[2][0].upper() + t[2][1:] + (t[1] or "") for t in types if t.start() < f.start() < t.end()]
+            cycle = re.search(r"#\[cycle\((\w+)\)\]\n(?: *#\[.*\]\n)*$", source[: f.start()])
+            found["/".join([*module, *method, f[2]])] = (f"src/{path.name}", f.start(), f.end(), cycle and cycle[1])
+    return found
+
+
 def function_at(crate, file, text):
-    """The function of a source file that has the text, as the end of its proof's path: module/function, or module/Type/function of a method. A private table is of
-    the function that alone names it, in the whole crate."""
+    """The function of a source file that has the text. A private table is of the function that alone names it, in the whole crate."""
     if not file.startswith("src/"):
         return None
     source = (crate / file).read_text()
-    functions = [*re.finditer(r"^( *)(?:pub )?(?:extern \"C\" )?fn (\w+).*?^\1\}$", source, re.M | re.S)]
-    types = [*re.finditer(r"^impl(?:<[^>]*>)? (?:\w+ for )?(\w+).*?^\}$", source, re.M | re.S)]
-    path = lambda f: "/".join([*(t[1] for t in types if t.start() < f.start() < t.end()), f[2]])
+    functions = {path: (start, end) for path, (place, start, end, _) in functions_of(crate).items() if place == file}
     at = source.find(text)
-    around = [path(f) for f in functions if f.start() <= at < f.end()]
+    around = [path for path, (start, end) in functions.items() if start <= at < end]
     for table in re.finditer(r"^const (\w+)[^\n]*\[\n.*?^\];$", source, re.M | re.S):
         if table.start() <= at < table.end():
             named = rf"\b{table[1]}\b"
             elsewhere = any(re.search(named, other.read_text()) for other in (crate / "src").glob("**/*.rt") if other != crate / file)
-            around = [path(f) for f in functions if re.search(named, f[0])] if not elsewhere else []
-    if len(around) != 1:
-        return None
-    module = pathlib.Path(file).stem
-    return around[0] if module in ("lib", "main") else f"{module}/{around[0]}"
+            around = [path for path, (start, end) in functions.items() if re.search(named, source[start:end])] if not elsewhere else []
+    return around[0] if len(around) == 1 else None
 
 
-def is_proof_of(function, fact, file):
-    """Whether a fact of a proof file is one of this function: in a proof of functions that call each other, each fact has the name of its own first."""
+def function_on(crate, file, line):
+    """The function of a source file that has this line. A change leaves the lines where they are, since its texts are one line each."""
+    at = sum(len(text) for text in (crate / file).read_text().splitlines(keepends=True)[: line - 1])
+    return next((path for path, (place, start, end, _) in functions_of(crate).items() if place == file and start <= at < end), None)
+
+
+def is_proof_of(crate, function, fact, file):
+    """Whether a fact of a proof file is one of this function. Functions that call each other have one file, under their cycle's name, and there each fact has the name of
+    its own function first; one that calls itself alone is a cycle with its name."""
     *module, name = function.split("/")
     *folder, last = file.split("/")[1:]
-    of_cycle = last.startswith("+") and (last == f"+{name}" or fact.replace("_", "-").startswith(name.replace("_", "-") + "-"))
-    return file.startswith("proofs/") and folder == module and (last == name or of_cycle)
+    cycle = functions_of(crate)[function][3]
+    if last.startswith("+") and cycle:
+        of_function = last == f"+{cycle}" and fact.replace("_", "-").startswith(name.replace("_", "-") + "-")
+    else:
+        of_function = last in (name, f"+{name}")
+    return file.startswith("proofs/") and folder == module and of_function
 
 
 def programs_of(path):
@@ -131,7 +153,7 @@ def programs_of(path):
         if len(functions) != 1 or None in functions or functions & seen:
             raise Bad(f"{path}: {program.name} doesn't change the body, or the private table, of one function of its own")
         for fact, file in program.facts:
-            if not is_proof_of(*functions, fact, file):
+            if not is_proof_of(path.parent.parent, *functions, fact, file):
                 raise Bad(f"{path}: {program.name}: {fact} in {file} is not of the proof of {functions}")
         seen |= functions
     return programs
@@ -166,27 +188,35 @@ EMPTY = re.compile(r"was not admitted|that can be named from here|has no field `
 
 
 def failures(text):
-    """What a log shows as failing, as fact and file. Of a function without a proof file the log names what `search` does not find."""
+    """What a log shows as failing: the fact, the file that names it, and the line where that is a source file. Of a function without a proof file the log names what
+    `search` does not find."""
     found = []
     # A message may go on in further lines, which begin with two spaces.
     for line in re.sub(r"\n  +", " ", text).split("\n"):
-        fact = re.match(r"(?:so far: )?(?:\./)?(?:\S*?must-fail \S+: refused, as it must be: (?:\./)?)?((?:specs|proofs|src)/\S+?)(?:/Proof|/Answers|/Invariants)?\.(?:antt|rt):\d+:\d+: error: `([^`]*)`(?:: | is not admitted: )(.*)", line)
+        fact = re.match(r"(?:so far: )?(?:\./)?(?:\S*?must-fail \S+: refused, as it must be: (?:\./)?)?((?:specs|proofs)/\S+?)(?:/Proof|/Answers|/Invariants)?\.antt:\d+:\d+: error: `([^`]*)`(?:: | is not admitted: )(.*)", line)
         made = re.match(r"(?:so far: )?fn .*: no proof: expected .*? in (?:\./)?(proofs/\S+)/\w+\.antt; `search` did not prove (.*)", line)
-        told = re.match(r"(?:\S*?must-fail \S+: refused, as it must be: )?note: (src/\w+)\.rt:\d+:\d+: (?:it is not proved .*|`search` found no proof )\(`([^`]*)`\)", line)
+        told = re.match(r"(?:\S*?must-fail \S+: refused, as it must be: )?note: (src/\w+\.rt):(\d+):\d+: (?:it is not proved .*|`search` found no proof )\(`([^`]*)`\)", line)
+        wrong = re.match(r"(?:so far: )?(?:\S*?must-fail \S+: refused, as it must be: )?(?:\./)?(src/\w+\.rt):(\d+):\d+: error: `([^`]*)`(?:: | is not admitted: )(.*)", line)
         if fact and not EMPTY.search(fact[3]):
-            found.append((fact[2], fact[1]))
+            found.append((fact[2], fact[1], None))
         elif made:
-            found += [(name, made[1]) for name in re.findall(r"`([^`]*)`", made[2])]
-        elif told:
-            # A goal that is made of the changed code: the note names its source file, and the goal alone tells the function.
-            found.append((told[2], told[1]))
+            found += [(name, made[1], None) for name in re.findall(r"`([^`]*)`", made[2])]
+        elif told or wrong and not EMPTY.search(wrong[4]):
+            # A goal that is made of the changed code, or of a function without answers: the line tells the function.
+            place = told or wrong
+            found.append((place[3], place[1], int(place[2])))
     return found
 
 
-def fails(fact, file, failed):
-    """Whether a fact is among those that fail. Of a function without answers a goal is named with its source file, and a method is of its type's module."""
-    module = [m for m in file.split("/")[1:-1] if not m[0].isupper()]
-    return (fact, file) in failed or file.startswith("proofs/") and any((fact, f"src/{m}") in failed for m in ([module[0]] if module else ["lib", "main"]))
+def fails(crate, fact, file, failed):
+    """Whether a fact is among those that fail. A goal that is named with its source file is one of the function that has its line there, and of no other."""
+    def is_it(name, place, line):
+        if line is None or name != fact:
+            return (name, place) == (fact, file)
+        function = function_on(crate, place, line)
+        return function is not None and is_proof_of(crate, function, fact, file)
+
+    return any(is_it(*failure) for failure in failed)
 
 
 def check_log(programs, problems):
@@ -206,7 +236,7 @@ def check_log(programs, problems):
             problems.append(f"{edit}: {line}")
             continue
         first = failures(line.partition("refused, as it must be: ")[2])
-        if not any(fails(fact, file, first) for p in programs if p.path == path for fact, file in p.facts):
+        if not any(fails(path.parent.parent, fact, file, first) for p in programs if p.path == path for fact, file in p.facts):
             problems.append(f"{edit}: what fails first is named by none of its programs: {line[:200]}")
 
 
@@ -251,8 +281,8 @@ def check_each(programs, problems):
         for program, log in zip(programs, pool.map(lambda p: try_alone(p, deps), programs), strict=True):
             failed = failures(log)
             for fact, file in program.facts:
-                if not fails(fact, file, failed):
-                    shown = ", ".join(f"{f} in {p}" for f, p in dict.fromkeys(failed)) or log.strip().split("\n")[-1][:200]
+                if not fails(program.path.parent.parent, fact, file, failed):
+                    shown = ", ".join(f"{f} in {p}" + (f", line {line}" if line else "") for f, p, line in dict.fromkeys(failed)) or log.strip().split("\n")[-1][:200]
                     problems.append(f"{program.crate()}/{program.path.stem}, {program.name}: {fact} in {file} doesn't fail; what fails: {shown}")
 
 

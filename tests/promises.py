@@ -88,6 +88,23 @@ def brought_in(text, start):
     return [path for tree in re.findall(rf"^{start} ([^;]*);", text, re.M) for path in each(" ".join(tree.split()))]
 
 
+def of_traits(prefix, code):
+    """The functions of a module's public traits, each under its trait, and those of each `impl TRAIT for TYPE`: under the trait where it is one of these, which says
+    their contract, and else under the type. A trait's function ends in a semicolon, or has a body too."""
+    found = {}
+    traits = {m[1]: m[0] for m in re.finditer(r"^pub trait (\w+)(?:.|\n)*?^\}", code, re.M)}
+    hidden = set(re.findall(r"^trait (\w+)", code, re.M))
+    blocks = [(name, text) for name, text in traits.items()]
+    for block in re.finditer(r"^impl(?:<.*?>)? ([\w:]+)(?:<.*?>)? for (\w+)(?:.|\n)*?^\}", code, re.M):
+        trait = block[1].split("::")[-1]
+        if trait not in hidden:
+            blocks.append((trait if trait in traits else block[2], block[0]))
+    for name, text in blocks:
+        for m in re.finditer(r"^    fn (\w+)(?:.|\n)*?[;{]$", text, re.M):
+            found[f"{prefix}{name}::{m[1]}"] = "requires" in m[0] or found.get(f"{prefix}{name}::{m[1]}", False)
+    return found
+
+
 def shown():
     """The functions that each library shows to other crates, with whether they require something."""
     found = {}
@@ -99,25 +116,35 @@ def shown():
             found.update({prefix + m[1]: "requires" in m[0] for m in re.finditer(r'^pub (?:extern "C" )?fn (\w+)(?:.|\n)*?\n\{', code, re.M)})
             for block in re.finditer(r"^impl(?:<.*?>)? (\w+)(?:<.*?>)? \{\n(?:.|\n)*?^\}", code, re.M):
                 found.update({f"{prefix}{block[1]}::{m[1]}": "requires" in m[0] for m in re.finditer(r"^    pub fn (\w+)(?:.|\n)*?\n    \{", block[0], re.M)})
+            found.update(of_traits(prefix, code))
         for module, name in [path.split("::") for path in brought_in(text, "pub use")]:
             found[f"{crate}::{name}"] = "requires" in believe.functions(lib.with_name(f"{module}.rt"))[name]
     return found
 
 
+def is_called(text, what):
+    """Whether a text without comments and imports calls this (a pattern), or hands it on as an argument."""
+    return re.search(rf"(?<![\w:.]){what}\(", text) or re.search(rf"[(,]\s*{what}\s*[,)]", text)
+
+
 def callers(name):
-    """The crates that call a function of another crate, or hand it on, by its path or by the last module of it. A method is called where its type is brought in."""
+    """The crates that call a function of another crate, or hand it on as an argument, by its path or by the last module of it. A method is called on a value, or by its
+    type or a type parameter, where the type or trait is brought in. Comments call nothing."""
     crate, *modules, function = name.split("::")
     found = set()
     for path in CRATES.glob("*/src/*.rt"):
-        text = path.read_text()
-        imports = {place.removesuffix("::self") for place in brought_in(text, "use")}
+        if path.parent.parent.name == crate:
+            continue
+        code = "\n".join(believe.code_of(path))
+        imports = {place.removesuffix("::self") for place in brought_in(code, "use")}
+        text = re.sub(r"(?m)^(?:pub |ghost )?use [^;]*;", "", code)
         if modules and modules[-1][0].isupper():
-            called = "::".join([crate, *modules]) in imports and re.search(rf"(?:\b{modules[-1]}::|\.){function}\(", text)
+            types = "|".join([modules[-1], *re.findall(rf"\b(\w+): (?:\w+ \+ )*{modules[-1]}\b", text)])
+            called = "::".join([crate, *modules]) in imports and (is_called(text, rf"(?:{types})::{function}") or re.search(rf"\.{function}\(", text))
         else:
-            short = modules and "::".join([crate, *modules]) in imports and re.search(rf"\b{modules[-1]}::{function}\b", text)
-            bare = name in imports and re.search(rf"(?<![\w:.]){function}\(", text)
-            called = re.search(rf"\b{name}\b(?!::)", re.sub(r"(?m)^(?:pub )?use [^;]*;", "", text)) or short or bare
-        if path.parent.parent.name != crate and called:
+            short = modules and "::".join([crate, *modules]) in imports and is_called(text, f"{modules[-1]}::{function}")
+            called = is_called(text, name) or short or name in imports and is_called(text, function)
+        if called:
             found.add(path.parent.parent.name)
     return found
 

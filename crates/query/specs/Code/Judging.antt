@@ -1,5 +1,5 @@
--- How the code judges nodes: one search for the fault of a cause, and the uses of all nodes counted in one pass. Definitions only; the laws are those of Nodes and
--- Reading.
+-- How the code judges nodes: for each cause a search for the lowest node with its fault, and the uses of all nodes counted in one pass. Definitions only; the laws
+-- are those of Nodes and Reading.
 use Rattle.std.specs.Prelude.{ℕ, ◌+◌, ◌-◌, Bool, false, cond, List, [], ◌∷◌, get_or, ltb, Option, Some, None}
 use Rattle.calculus.specs.Lists.{tabulate}
 use Rattle.causes.specs.Causes.{Finding, clear, met}

@@ -101,7 +101,7 @@ abbrev pub beside : {A : Type 0} → Option BodyWithin → A → Option (Body ×
 beside None x = None
 beside (Some b) x = Some (body_from b, x)
 
--- The bounds that the code's indices rest on.
+-- The bounds of goals, for the laws. The code's indices rest on the facts of `Body` in kept.rt, which have them too.
 pub record Small (b : Body) : Type 0 where
   pub count_small : b.count ≤ max_terms
   pub terms_small : (i : ℕ) → get_or b.terms i 0 < 32

@@ -10,7 +10,7 @@ use Rattle.rules.specs.Reply.{Packing, max_bytes, refused}
 use Rattle.rules.specs.Meaning.{max_terms}
 use Rattle.rules.specs.Code.Draft.{Head, Body, Nodes, add_word, onward}
 
--- The bounds that the code's indices rest on.
+-- The bounds of a head, for the laws. The code's indices rest on the facts of `Head` in kept.rt, which have them too.
 pub record Variables (h : Head) : Type 0 where
   pub few : h.count ≤ max_terms
   pub small : (i : ℕ) → get_or h.variables i 0 < 16
