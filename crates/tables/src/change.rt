@@ -2,7 +2,7 @@
 ghost use Rattle.std.specs.Prelude.{◌≡◌, ◌+◌, ◌-◌, ◌≤◌, ◌<◌};
 ghost use Rattle.tables.specs.Store.{capacity, places_of, held, of_places};
 ghost use Rattle.tables.specs.Change.{changed_of, rank, put_reply, removal_reply};
-ghost use Rattle.tables.specs.Code.Change.{located, raised, lowered, insertion, deletion};
+ghost use Rattle.tables.specs.Code.Change.{located, raised, lowered, insertion, Joined, deletion};
 
 use crate::{BLANK, PLACES, Record, Store, layout, place};
 use causes::Refusal;
@@ -13,7 +13,8 @@ fn rank_of(s: &Store, r: Record) -> usize
     ensures { result ≡ rank r (held s.now) }
 {
     for i in 0..s.count {
-        if !(place::read(&s.relations, &s.values, i) < r) {
+        // A record of a relation before r's is below r, whatever its values: most are told by this alone.
+        if r.relation <= s.relations[i] && !(place::read(&s.relations, &s.values, i) < r) {
             return i;
         }
     }
@@ -32,10 +33,10 @@ fn locate(s: &Store, r: Record) -> Result<usize, usize>
     Err(place)
 }
 
-// The store with r at place k, and the records from there on one place up.
-fn raise(mut s: Store, k: usize, r: Record) -> Store
-    requires { (k ≤ capacity) × (s.count ≤ capacity) }
-    ensures { result ≡ of_places s.widths (raised (places_of s) k r) (s.count + 1) }
+// Puts r at place k of a store, and the records from there on one place up.
+fn raise(s: &mut Store, k: usize, r: Record)
+    requires { (k ≤ capacity) × (s.old.count ≤ capacity) }
+    ensures { s.new ≡ of_places s.old.widths (raised (places_of s.old) k r) (s.old.count + 1) }
 {
     let mut carried = r;
     for i in k..PLACES {
@@ -44,7 +45,6 @@ fn raise(mut s: Store, k: usize, r: Record) -> Store
         carried = next;
     }
     s.count += 1;
-    s
 }
 
 // The store without the record at place k, those past it one place down, and the last place blank.
@@ -61,10 +61,10 @@ fn lower(mut s: Store, k: usize) -> Store
     s
 }
 
-// Causes 13 to 15 and the put, into a store that is lent and judged: only its count matters here.
-pub(crate) fn joined(s: &Store, r: Record) -> Result<Store, Refusal>
-    requires { s.now.count ≤ capacity }
-    ensures { changed_of s.now result ≡ insertion s.now r }
+// Causes 13 to 15 and the put, in a store that is lent and judged: only its count matters here.
+pub(crate) fn join(s: &mut Store, r: Record) -> Result<(), Refusal>
+    requires { s.old.count ≤ capacity }
+    ensures { Joined s.old r result s.new }
 {
     if !layout::record_fits(&s.widths, r) {
         return Err(Refusal::RecordLayout);
@@ -72,16 +72,20 @@ pub(crate) fn joined(s: &Store, r: Record) -> Result<Store, Refusal>
     match locate(s, r) {
         Ok(_) => Err(Refusal::Held),
         Err(_) if PLACES <= s.count => Err(Refusal::StoreFull),
-        Err(place) => Ok(raise(*s, place, r)),
+        Err(place) => {
+            raise(s, place, r);
+            Ok(())
+        }
     }
 }
 
-// The same, for a caller that hands the store on.
-pub fn insert(s: Store, r: Record) -> Result<Store, Refusal>
+// The same, for a caller that hands the store over.
+pub fn insert(mut s: Store, r: Record) -> Result<Store, Refusal>
     requires { s.count ≤ capacity }
     ensures { changed_of s result ≡ insertion s r }
 {
-    joined(&s, r)
+    join(&mut s, r)?;
+    Ok(s)
 }
 
 // Causes 13 and 16 and the removal, for a caller that has judged the store: only its count matters here.

@@ -34,7 +34,7 @@ pub fn begin(widths: [u8; RELATIONS]) -> Result<Store, Refusal>
 // A filling with one record more, given by its parts: causes 13 and 15. One that is refused stays so, whatever its refusal carries. A store whose count is past
 // the places, which no filling has, is refused with cause 2.
 pub fn collect<E: From<Refusal> + Drop>(
-    f: Result<Store, E>,
+    mut f: Result<Store, E>,
     relation: u8,
     first: u32,
     second: u32,
@@ -43,7 +43,7 @@ pub fn collect<E: From<Refusal> + Drop>(
 ) -> Result<Store, E>
     ensures { CollectedBy E.from_gives f (record_of_parts relation first second third fourth) result }
 {
-    let Ok(s) = &f else {
+    let Ok(s) = &mut f else {
         return f;
     };
     if PLACES < s.count {
@@ -56,9 +56,8 @@ pub fn collect<E: From<Refusal> + Drop>(
         third,
         fourth,
     };
-    match change::joined(s, r) {
-        Ok(t) => Ok(t),
-        Err(Refusal::Held) => f,
+    match change::join(s, r) {
+        Ok(()) | Err(Refusal::Held) => f,
         Err(cause) => Err(E::from(cause)),
     }
 }

@@ -15,5 +15,5 @@ pub returns : goal.returns
 returns c =
     let a = c.args in let l = c.loop-i in
     rw (l.invariant.2, l.invariant.3)
-    (store_is l.s.relations l.s.values l.invariant.0 l.invariant.1 _ _ (raised (places_of a.s) a.k a.r)
-    (raise-end l.s.relations l.s.values l.i l.carried (places_of a.s) a.k a.r (omega arith) l.invariant.4))
+    (store_is l.s.relations l.s.values l.invariant.0 l.invariant.1 _ _ (raised (places_of a.s.now) a.k a.r)
+    (raise-end l.s.relations l.s.values l.i l.carried (places_of a.s.now) a.k a.r (omega arith) l.invariant.4))
