@@ -13,8 +13,8 @@ use Rattle.causes.proofs.Theory.Causes.Laws.{first_done, later-done, first-clear
 use Rattle.tables.specs.Store.{facts}
 use Rattle.query.specs.declared.Query.{Query}
 use Rattle.query.specs.Reading.{pool, columns_of, formula}
-use Rattle.answer.specs.Reply.{exceeds, row_checks, front, worked}
-use Rattle.packed.specs.Packed.{Listing, input_checks, store_in, query_read, result_in, list_checks, declined, listing_reply, listing_of}
+use Rattle.answer.specs.Reply.{exceeds, row_checks, Writing, front, worked}
+use Rattle.packed.specs.Packed.{Listing, input_checks, store_in, query_read, result_in, list_checks, declined, listing_reply, listing_in, listing_of}
 use Rattle.packed.proofs.Theory.Packed.Laws.{input-few, listing-by-cause}
 
 -- The columns of the query of an input.
@@ -34,6 +34,15 @@ pub record Told (bs buffer : List ℕ) (l : Listing) (after : List ℕ) : Type 0
 -- A refusal comes with nothing else.
 pub declined-bare : (n p : ℕ) → ((declined n p).answer ≡ Refused n p) × ((declined n p).safe ≡ false) × ((declined n p).columns ≡ columns_of []) × ((declined n p).endless ≡ false) × ((declined n p).rows ≡ 0)
 declined-bare n p = (refl, refl, refl, refl, refl)
+
+-- So what a list's reply tells of a refusal is the refusal alone, whatever its rows were to be written into: not safe, no columns, not endless, no rows, and what
+-- was lent as it was.
+pub refused-bare : (write : Writing (List ℕ)) (room : ℕ) (bs buffer : List ℕ) (l : Listing) (after : List ℕ) → (l, after) ≡ listing_in write room bs buffer → (n p : ℕ) → l.answer ≡ Refused n p → (l.safe ≡ false) × (l.columns ≡ columns_of []) × (l.endless ≡ false) × (l.rows ≡ 0) × (after ≡ buffer)
+refused-bare write room bs buffer l after e n p a = go (first_cause (list_checks bs room)) e
+  where
+    go : (c : Answer) → (l, after) ≡ listing_reply write c (query_read bs) (result_in bs) buffer → (l.safe ≡ false) × (l.columns ≡ columns_of []) × (l.endless ≡ false) × (l.rows ≡ 0) × (after ≡ buffer)
+    go Done e = let never : ◌≡◌ {A = Answer} Done (Refused n p) = sym (ap (λ r. r.0.answer) e) ∙ a in cc
+    go (Refused m k) e = (ap (λ r. r.0.safe) e, ap (λ r. r.0.columns) e, ap (λ r. r.0.endless) e, ap (λ r. r.0.rows) e, ap (λ r. r.1) e)
 
 -- ---- rows that fit are few
 
