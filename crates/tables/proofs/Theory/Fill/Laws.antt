@@ -49,6 +49,7 @@ collected-told f now r h = sym (same now) ∙ collected-filling told (λ e r. re
   where
     told : Refusal → Changed
     told e = changed_of no_store (Err e)
+
     same : (g : Result Store Refusal) → filling_of told g ≡ changed_of no_store g
     same (Ok s) = refl
     same (Err e) = refl
